@@ -75,11 +75,11 @@ fn raw_codes_are_declarations(rt: HostRuntime) -> Result<(), NoMemory> {
         Outline::BadLine(3)
     );
     assert_eq!(rt;
-        outline_of(alloc, b"def g\nend\ncode f\nconsts @g\n")?,
-        Outline::BadLine(4)
+        outline_of(alloc, b"def g\nend\ncode f\nconsts @g (1 'b')\nconsts @f\n")?,
+        Outline::BadLine(5)
     );
     assert_eq!(rt;
-        outline_of(alloc, b"code f\nconsts (1 'b')\n")?,
+        outline_of(alloc, b"code f\nconsts @f\n")?,
         Outline::BadLine(2)
     );
     Ok(())

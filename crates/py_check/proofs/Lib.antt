@@ -1,8 +1,10 @@
 pub mod BreakingLemmas
 pub mod OperandLemmas
 mod KindRunsLemmas
+pub mod NoteLemmas
+mod InnermostLemmas
 mod FittingLemmas
 mod TakingLemmas
 mod CheckLemmas
-mod EarlierLemmas
+pub mod EarlierLemmas
 pub mod WorkedLemmas

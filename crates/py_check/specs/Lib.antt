@@ -26,10 +26,12 @@ pub mod Breaking
 pub mod Laws
 -- what the machine carries out so far
 pub mod Running
--- the table of effects, stacks and units as the checker has them
+-- the table of effects, stacks and units as the checker has them, and the handlers that it looks at first
 pub mod Table
 pub mod Opened
 pub mod Sites
+pub mod Innermost
+pub mod Checking
 -- codes worked by hand
 pub mod Worked
 pub mod WorkedHandlers

@@ -4,7 +4,7 @@ use Rattle.std.specs.Prelude.{◌≡◌, ◌<◌, ℕ, Bool, true, false, ◌&&�
 use Rattle.py_code.specs.declared.unit.CodeUnit.{CodeUnit}
 use Rattle.py_code.specs.declared.instruction.Instruction.{Instruction}
 use Rattle.py_code.specs.declared.instruction.Instruction.TheVariants as op
-use Rattle.py_code.specs.declared.literal.Literal.{Literal, None as NoneLiteral, Bool as BoolLiteral, Int as IntLiteral, Str as StrLiteral, Builtin as BuiltinLiteral}
+use Rattle.py_code.specs.declared.literal.Literal.{Literal, None as NoneLiteral, Bool as BoolLiteral, Int as IntLiteral, Str as StrLiteral, Tuple' as TupleLiteral, Code as CodeLiteral, Builtin as BuiltinLiteral, Row_of-Literal, end_of-Literal, more_of-Literal}
 use Rattle.py_code.specs.declared.literal.BuiltinFn.{BuiltinFn}
 use Rattle.py_code.specs.declared.literal.BuiltinFn.TheVariants.{Send, Throw, Close}
 use Rattle.py_code.specs.declared.operator.BinaryOperator.{BinaryOperator}
@@ -27,14 +27,20 @@ is_driving Throw = true
 is_driving Close = true
 is_driving _ = false
 
--- the constants that are loaded
-abbrev pub is_loaded : Literal → Bool
-is_loaded NoneLiteral = true
-is_loaded (BoolLiteral b) = true
-is_loaded (IntLiteral n) = true
-is_loaded (StrLiteral s) = true
-is_loaded (BuiltinLiteral f) = is_driving f
-is_loaded _ = false
+abbrev mutual
+  -- the constants that are loaded: a tuple is where its items are, and a code always
+  pub is_loaded : Literal → Bool
+  is_loaded NoneLiteral = true
+  is_loaded (BoolLiteral b) = true
+  is_loaded (IntLiteral n) = true
+  is_loaded (StrLiteral s) = true
+  is_loaded (TupleLiteral shape items) = are_loaded items
+  is_loaded (CodeLiteral n) = true
+  is_loaded (BuiltinLiteral f) = is_driving f
+
+  pub are_loaded : {m : _} → Row_of-Literal m → Bool
+  are_loaded end_of-Literal = true
+  are_loaded (more_of-Literal item items) = is_loaded item && are_loaded items
 
 -- a constant is there, and is loaded
 abbrev pub loads_constant : Option Literal → Bool

@@ -1,6 +1,6 @@
 //! The rules on units, and the first that is broken.
 
-ghost use Rattle.std.specs.Prelude.{◌≡◌, ◌≤◌, ◌<◌, ◌+◌, Some, None, Err, IfOk, OnOk, length, nat_lt, replicate, slice_get};
+ghost use Rattle.std.specs.Prelude.{◌≡◌, ◌≤◌, ◌<◌, ◌+◌, Some, None, Err, IfOk, OnOk, length, nat_lt, replicate, slice_get, true};
 ghost use Rattle.std.specs.List.{list_all};
 ghost use Rattle.py_check.specs.declared.fault.CheckFault.TheVariants as CheckFault;
 ghost use Rattle.py_check.specs.Sheet.{sheet_of};
@@ -9,13 +9,15 @@ ghost use Rattle.py_check.specs.Table.{places_by};
 ghost use Rattle.py_check.specs.Operands.{operand};
 ghost use Rattle.py_check.specs.Taking.{picked};
 ghost use Rattle.py_check.specs.Sites.{exchanges, keeps_op_at, moves, IsOperand};
+ghost use Rattle.py_check.specs.Checking.{units_of, KnowsInnermost};
 ghost use Rattle.py_check.specs.Typing.{keeps_at, IsTyped};
 ghost use Rattle.py_check.specs.Breaking.{BreaksWhere};
 
 use crate::annotated::Annotated;
 use crate::checked::CheckedCode;
 use crate::fault::CheckFault;
-use crate::landing::{handlers_land, is_label, levels_nest, top_level};
+use crate::innermost::{all_innermost_land, open_handlers_land};
+use crate::landing::{is_label, levels_nest, top_level};
 use crate::note::{Kind, Note};
 use crate::site::Site;
 use crate::table::{Effect, OpArgType, look_up, names_by};
@@ -189,19 +191,30 @@ fn keeps_op(
     }
 }
 
+/// What the units of a code are checked by.
+#[derive(Clone, Copy)]
+struct Checking<'a> {
+    code: &'a Annotated,
+    /// How many free names each earlier code has.
+    shapes: &'a [usize],
+    /// Whether it is known that control may come to the innermost handler from each unit.
+    all_land: bool,
+}
+
 /// Whether a unit keeps the rules, with its operand.
-fn keeps_at(
-    alloc: Global,
-    code: &Annotated,
-    shapes: &[usize],
-    at: u32,
-    arg: u32,
-) -> Result<bool, NoMemory>
-    requires within { at < length code.now.code.code.instructions.items }
-    requires notes { length code.now.notes ≡ length code.now.code.code.instructions.items }
-    requires arg { IsOperand code.now.code.code.instructions.items at arg }
-    ensures { IfOk result (λ kept. kept ≡ keeps_at shapes.now (sheet_of code.now) at) }
+fn keeps_at(alloc: Global, checking: &Checking<'_>, at: u32, arg: u32) -> Result<bool, NoMemory>
+    requires within { at < length (units_of checking.now) }
+    requires notes { length checking.now.code.now.notes ≡ length (units_of checking.now) }
+    requires arg { IsOperand (units_of checking.now) at arg }
+    requires land { KnowsInnermost checking.now }
+    ensures { IfOk result
+        (λ kept. kept ≡ keeps_at checking.now.shapes.now (sheet_of checking.now.code.now) at) }
 {
+    let Checking {
+        code,
+        shapes,
+        all_land,
+    } = *checking;
     let op = code.code.code.instructions[at as usize].op;
     match code.notes.get(at as usize) {
         None => Ok(false),
@@ -215,7 +228,7 @@ fn keeps_at(
             if !levels_nest(kinds.len(), blocks) {
                 return Ok(false);
             }
-            if !handlers_land(code, kinds, blocks) {
+            if !open_handlers_land(code, kinds, blocks, all_land) {
                 return Ok(false);
             }
             let site = Site {
@@ -237,12 +250,17 @@ fn first_break(alloc: Global, code: &Annotated, shapes: &[usize]) -> Result<Opti
     if !keeps_whole(code, shapes) {
         return Ok(Some(0));
     }
+    let checking = Checking {
+        code,
+        shapes,
+        all_land: all_innermost_land(alloc, code)?,
+    };
     let units = code.code.code.instructions.as_slice();
     let mut state = OpArgState::new();
     for at in 0..units.len() {
         let unit = units[at];
         let arg = state.extend(unit.arg);
-        if !keeps_at(alloc, code, shapes, at as u32, arg.0)? {
+        if !keeps_at(alloc, &checking, at as u32, arg.0)? {
             return Ok(Some(at));
         }
         if !unit.op.is_prefix() {

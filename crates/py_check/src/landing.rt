@@ -123,7 +123,12 @@ pub(crate) fn levels_nest(depth: usize, blocks: &BlockList) -> bool
 }
 
 /// Whether what leaves a block may come to its handler, with these kinds under it and these blocks around it.
-fn handler_lands(code: &Annotated, block: &BlockNote, kinds: &[Kind], blocks: &BlockList) -> bool
+pub(crate) fn handler_lands(
+    code: &Annotated,
+    block: &BlockNote,
+    kinds: &[Kind],
+    blocks: &BlockList,
+) -> bool
     ensures { result ≡ handler_lands (sheet_of code.now) block.now kinds.now blocks.now }
 {
     match block {

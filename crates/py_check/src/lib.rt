@@ -8,6 +8,7 @@ mod checked;
 mod fault;
 mod fits;
 mod handlers_worked;
+mod innermost;
 mod kinds;
 mod landing;
 mod laws;

@@ -22,7 +22,7 @@ pub fn worked_running()
     ensures tests_otherwise { runs sum op.TestOperation 0 ≡ false }
     ensures reverses { (n : ℕ) → runs sum op.Reverse n ≡ false }
     ensures loads_number { (n : ℤ) → runs (loaded (Int n) kind.Any) op.LoadConst 0 ≡ true }
-    ensures loads_code { (c : ℕ) → runs (loaded (Code c) (kind.Code c)) op.LoadConst 0 ≡ false }
+    ensures loads_code { (c : ℕ) → runs (loaded (Code c) (kind.Code c)) op.LoadConst 0 ≡ true }
     ensures loads_send { runs (loaded (Builtin Send) kind.Any) op.LoadConst 0 ≡ true }
     ensures loads_len { runs (loaded (Builtin Len) kind.Any) op.LoadConst 0 ≡ false }
     ensures yields { runs (yielding IS_GENERATOR) op.YieldValue 0 ≡ true }

@@ -1,4 +1,4 @@
-mod LiteralLemmas
+pub mod LiteralLemmas
 mod ReplacingLemmas
 pub mod NamesLemmas
 pub mod TextLemmas

@@ -1,13 +1,8 @@
 -- Constants in rows and in lists, as plain data.
-use Rattle.std.proofs.Common.{◌≡◌, List, [], ◌∷◌, map, refl, ap, sym, ◌∙◌, rules}
+use Rattle.std.proofs.Common.{◌≡◌, List, [], map, refl, ap, sym, ◌∙◌, rules}
 use Rattle.py_code.specs.declared.literal.Literal.{Literal, Tuple, Tuple' as TupleLiteral, Row_of-Literal, end_of-Literal, more_of-Literal, items-the_row-Literal, the_lemmas}
 use Rattle.py_code.specs.declared.literal.LiteralList.{LiteralList}
-use Rattle.py_code.specs.Literals.{Constant, Constants, no_more, constant, tuple, constant_of, constants_in, literals_of}
-
--- a list as plain data
-abbrev in_order : List Constant → Constants
-in_order [] = no_more
-in_order (c ∷ cs) = constant c (in_order cs)
+use Rattle.py_code.specs.Literals.{Constant, constant, tuple, constant_of, constants_in, in_order, literals_of}
 
 -- a row of constants by its list
 constants_in-list : {m : _} (row : Row_of-Literal m) → constants_in row ≡ in_order (map constant_of (items-the_row-Literal _ row))

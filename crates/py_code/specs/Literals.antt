@@ -1,5 +1,5 @@
 -- Constants, and lists of them.
-use Rattle.std.specs.Prelude.{◌≡◌, ℕ, ℤ, Bool, true, false, List, map}
+use Rattle.std.specs.Prelude.{◌≡◌, ℕ, ℤ, Bool, true, false, List, [], ◌∷◌, map}
 use Rattle.py_code.specs.declared.literal.BuiltinFn.{BuiltinFn}
 use Rattle.py_code.specs.declared.literal.Literal.{Literal, None as NoneLiteral, Bool as BoolLiteral, Int as IntLiteral, Str as StrLiteral, Tuple' as TupleLiteral, Code as CodeLiteral, Builtin as BuiltinLiteral, Row_of-Literal, end_of-Literal, more_of-Literal}
 use Rattle.py_code.specs.declared.literal.LiteralList.{LiteralList, out-LiteralList}
@@ -43,6 +43,11 @@ abbrev mutual
   pub constants_in : {m : _} → Row_of-Literal m → Constants
   constants_in end_of-Literal = no_more
   constants_in (more_of-Literal item items) = constant (constant_of item) (constants_in items)
+
+-- constants of a list, in order
+abbrev pub in_order : List Constant → Constants
+in_order [] = no_more
+in_order (c ∷ cs) = constant c (in_order cs)
 
 -- two lists stand for the same constants
 abbrev pub AreSame : (left right : LiteralList) → Type 0

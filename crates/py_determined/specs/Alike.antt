@@ -24,7 +24,8 @@ pub record AlikeExceptions (S : Relation) (objects objects' : List Payload) (e f
   pub suppress : e.suppress ≡ f.suppress
   pub traceback : SameMaybe S e.traceback f.traceback
 
--- two payloads of one kind: equal values, and entries that name related objects. Tuples, dicts and frames are no values of scripts
+-- two payloads of one kind: equal values, and entries that name related objects. Tuples, dicts, codes and frames are no values of
+-- scripts without raw codes
 abbrev pub Alike : Relation → List Payload → List Payload → Payload → Payload → Type 0
 Alike S objects objects' payload.None payload.None = Unit {0}
 Alike S objects objects' (payload.Bool b) (payload.Bool c) = b ≡ c

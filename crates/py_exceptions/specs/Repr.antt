@@ -97,6 +97,7 @@ shown inner objects (Some (payload.Dict ps)) = dict_of inner ps
 shown inner objects (Some (payload.Class c)) = codes "<class '" ++ (encode_utf8_all c.name ++ codes "'>")
 shown inner objects (Some (payload.Function f)) = codes "<function " ++ (encode_utf8_all f.name ++ codes ">")
 shown inner objects (Some (payload.Builtin f)) = codes "<built-in function " ++ (encode_utf8_all (builtin_name f) ++ codes ">")
+shown inner objects (Some (payload.Code n)) = codes "<code " ++ (decimal n ++ codes ">")
 shown inner objects (Some (payload.Manager m)) = codes "<manager " ++ (encode_utf8_all m.name ++ codes ">")
 shown inner objects (Some (payload.Frame c)) = codes "<frame>"
 shown inner objects (Some (payload.Generator g)) = coro_of g

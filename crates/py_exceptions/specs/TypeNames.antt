@@ -29,6 +29,7 @@ IsTypeName objects (payload.Dict ps) n = n ≡ codes "dict"
 IsTypeName objects (payload.Class c) n = n ≡ codes "type"
 IsTypeName objects (payload.Function f) n = n ≡ codes "function"
 IsTypeName objects (payload.Builtin f) n = n ≡ codes "builtin_function_or_method"
+IsTypeName objects (payload.Code c) n = n ≡ codes "code"
 IsTypeName objects (payload.Manager m) n = n ≡ codes "manager"
 IsTypeName objects (payload.Frame c) n = n ≡ codes "frame"
 IsTypeName objects (payload.Generator g) n = n ≡ kind_name g.kind

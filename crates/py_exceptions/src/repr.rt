@@ -1,6 +1,6 @@
 //! The representation of objects, after a text.
 
-ghost use Rattle.std.specs.Prelude.{◌≡◌, ◌++◌, encode_utf8_all, codes, if◌then◌else◌, option_copied};
+ghost use Rattle.std.specs.Prelude.{◌≡◌, ◌++◌, encode_utf8_all, codes, decimal, if◌then◌else◌, option_copied};
 ghost use Rattle.std.specs.Fmt.{signed_decimal};
 ghost use Rattle.py_exceptions.specs.Repr.{coro_front, coro_of, dict_of, in_parentheses, items_of, joined, pair_by, payload_of, repr_within, tuple_of};
 ghost use Rattle.py_exceptions.specs.Writing.{Adds, builtin_text, class_text, enclosed_text, inner_at, pairs_text, payload_text};
@@ -52,6 +52,7 @@ fn push_payload(
         Payload::Class(class) => push_named(out, "<class '", &class.value().name, "'>"),
         Payload::Function(function) => push_named(out, "<function ", &function.name, ">"),
         Payload::Builtin(function) => push_builtin(out, *function),
+        Payload::Code(place) => push_code(out, *place),
         Payload::Manager(manager) => push_named(out, "<manager ", &manager.name, ">"),
         Payload::Frame(_) => push_words(out, "<frame>"),
         Payload::Generator(coro) => push_coro(out, coro),
@@ -242,6 +243,14 @@ fn push_builtin(out: &mut String, function: BuiltinFn) -> Result<(), NoMemory>
 {
     let name = text_of(*out.allocator(), function.name())?;
     push_named(out, "<built-in function ", &name, ">")
+}
+
+/// Puts a code after the text.
+fn push_code(out: &mut String, place: usize) -> Result<(), NoMemory>
+    ensures { Adds result out.old out.new (codes "<code " ++ (decimal place ++ codes ">")) }
+{
+    write!(out, "<code {place}>")?;
+    Ok(())
 }
 
 /// Puts the name of a class after the text: nothing, where it isn't there or is none.

@@ -24,6 +24,7 @@ pub fn type_name(alloc: Global, store: &Store, payload: &Payload) -> Result<PyTe
         Payload::Class(_) => text_of(alloc, b"type"),
         Payload::Function(_) => text_of(alloc, b"function"),
         Payload::Builtin(_) => text_of(alloc, b"builtin_function_or_method"),
+        Payload::Code(_) => text_of(alloc, b"code"),
         Payload::Manager(_) => text_of(alloc, b"manager"),
         Payload::Frame(_) => text_of(alloc, b"frame"),
         Payload::Generator(body) => kind_name(alloc, body.kind),

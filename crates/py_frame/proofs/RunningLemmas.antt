@@ -139,7 +139,7 @@ module _ (names : List (List ℕ)) (code : Annotated) (sound : IsSound names cod
 
     move_done : (objects : List Payload) (m : Move) → SeenBelow (length objects) m → ((objects' : List Payload) → Grows objects objects' → AlwaysLeads objects' (λ t. FitsAt objects' code t.wants t) m) → HasNeeds objects g m
     move_done objects (Plainly step) there all = step_done objects step (all objects ([], sym (append-nil objects)))
-    move_done objects (Loads p f) there all = λ objects' v grows has. step_done objects' (f v) (all objects' grows v has)
+    move_done objects (Loads c f) there all = λ objects' v grows has. step_done objects' (f v) (all objects' grows v has)
     move_done objects (Decides v f) there all = let here = all objects ([], sym (append-nil objects)) in (here.0, λ b. step_done objects (f b) (here.1 b))
     move_done objects (Manages m f) there all = ((_, slice_get-get_or objects m.number payload.None there), λ b. step_done objects (f b) (all objects ([], sym (append-nil objects)) b))
     move_done objects (Resolves v f) there all = ((_, slice_get-get_or objects v.number payload.None there), λ p. step_done objects (f p) (all objects ([], sym (append-nil objects)) p))
@@ -153,7 +153,7 @@ module _ (names : List (List ℕ)) (code : Annotated) (sound : IsSound names cod
 
   never_stuck : (objects : List Payload) (P : State → Type 0) (m : Move) → AlwaysLeads objects P m → MayLead objects m Stuck → ⊥
   never_stuck objects P (Plainly done) all may = subst (LeadsTo P) may all
-  never_stuck objects P (Loads p f) all (v, has, is) = subst (LeadsTo P) is (all v has)
+  never_stuck objects P (Loads c f) all (v, has, is) = subst (LeadsTo P) is (all v has)
   never_stuck objects P (Decides v f) all (b, has, is) = subst (LeadsTo P) is (all.1 b)
   never_stuck objects P (Manages m f) all (b, manages, is) = subst (LeadsTo P) is (all b)
   never_stuck objects P (Resolves v f) all (p, has, is) = subst (LeadsTo P) is (all p)

@@ -10,11 +10,11 @@ use Rattle.py_objects.specs.Objects.{Obj}
 use Rattle.py_objects.specs.Own.{Rounds}
 use Rattle.py_objects.specs.Callees.{call_request}
 use Rattle.py_rows.specs.States.{State, Step, Goes, Tells, Resolves, landed, with_stack, jumps}
-use Rattle.py_rows.specs.Rows.{asks, reaches, calls, call_function, loads, or_stuck, payload_of, takes_off, where_there}
+use Rattle.py_rows.specs.Rows.{asks, reaches, calls, call_function, loads, takes_off, where_there}
 use Rattle.py_rows.specs.Receiving.{answered, entered, enters, enters_top, passes_if}
 use Rattle.py_rows.specs.Laws.{LeadsTo, IsWithin}
 use Rattle.py_frame.specs.Frames.{Framed}
-use Rattle.py_frame.specs.UnitSteps.{HasRoom, HasNeeds, IsLoaded}
+use Rattle.py_frame.specs.UnitSteps.{HasRoom, HasNeeds}
 
 -- where a transfer can be made
 pub safe_jump : (max depth to : ℕ) (s : State) → LeadsTo (IsWithin max depth) (jumps to s) → IsWithin max depth s
@@ -33,14 +33,10 @@ there_is : (P : State → Type 0) (b : Bool) (step : Step) → LeadsTo P (where_
 there_is P true step safe = refl
 there_is P false step safe = absurd safe
 
--- a constant of which an object is loaded is one of which it can be made
-pub can_load : (objects : List Payload) (f : Framed) (o : Option Literal) (k : Obj → Step) → HasNeeds objects f (loads o k) → IsLoaded o
+-- a constant of which an object is loaded is there
+pub can_load : (objects : List Payload) (f : Framed) (o : Option Literal) (k : Obj → Step) → HasNeeds objects f (loads o k) → is_some o ≡ true
 can_load objects f None k can = absurd can
-can_load objects f (Some l) k can = by_payload (payload_of l) can
-  where
-    by_payload : (p : Option Payload) → HasNeeds objects f (or_stuck p k) → is_some p ≡ true
-    by_payload None can = absurd can
-    by_payload (Some p) can = refl
+can_load objects f (Some l) k can = refl
 
 -- a call finds its callee under its arguments
 pub call_there : (objects : List Payload) (g : Framed) (k : ℕ) (s : State) → HasNeeds objects g (call_function k s) → k < length s.stack

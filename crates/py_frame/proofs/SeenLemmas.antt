@@ -7,7 +7,6 @@ use Rattle.py_code.specs.declared.instruction.Instruction.TheVariants.{LoadConst
 use Rattle.py_code.specs.declared.unit.CodeUnit.{CodeUnit}
 use Rattle.py_code.specs.Literals.{literals_of}
 use Rattle.py_code.specs.Units.{with_byte}
-use Rattle.py_objects.specs.declared.payload.Payload.{Payload}
 use Rattle.py_objects.specs.declared.request.Request.{Request}
 use Rattle.py_objects.specs.declared.event.GotAnswer.TheVariants as got
 use Rattle.py_objects.specs.Objects.{Obj, AllBelow, numbers}
@@ -17,7 +16,7 @@ use Rattle.py_rows.specs.declared.expect.Expect.{Expect}
 use Rattle.py_rows.specs.declared.expect.Expect.TheVariants as expect
 use Rattle.py_rows.specs.States.{Setting, State, Step, Move, Manages, Resolves, begun, waiting, with_stack}
 use Rattle.py_rows.specs.Asked.{asked}
-use Rattle.py_rows.specs.Rows.{payload_of, or_stuck, loads, reaches, calls, acts_by, act_own, unit_move}
+use Rattle.py_rows.specs.Rows.{loads, reaches, calls, acts_by, act_own, unit_move}
 use Rattle.py_rows.proofs.BelowLemmas.{reverse_below, take_below}
 use Rattle.py_rows.specs.Receiving.{answered_by, answered_own, enters, enters_top, unit_answered, moves}
 
@@ -30,11 +29,7 @@ module _ (n : ℕ) where
 
   loads_none : (l : Option Literal) (f : Obj → Step) → SeenBelow (loads l f)
   loads_none None f = tt
-  loads_none (Some l) f = by_payload (payload_of l)
-    where
-      by_payload : (p : Option Payload) → SeenBelow (or_stuck p f)
-      by_payload None = tt
-      by_payload (Some p) = tt
+  loads_none (Some l) f = tt
 
   calls_there : (vs : List Obj) (there : Bool) (s : State) → AllBelow n (numbers vs) → SeenBelow (calls vs there s)
   calls_there [] there s low = tt

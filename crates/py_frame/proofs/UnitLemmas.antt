@@ -1,7 +1,6 @@
 -- The unit that comes next or waited: what can be done of it where it has begun, and what was done.
-use Rattle.std.proofs.Common.{◌≡◌, ◌∙◌, ◌+◌, ◌<◌, ℕ, suc, List, [], Some, refl, sym, ap, subst, length, get_or, arith}
+use Rattle.std.proofs.Common.{◌≡◌, ◌∙◌, ◌+◌, ◌<◌, ℕ, suc, List, Some, sym, ap, subst, arith}
 use Rattle.std.specs.Prelude.{Option, slice_get}
-use Rattle.std.proofs.lemmas.Option.{slice_get_read}
 use Rattle.py_code.specs.declared.code.PyCode.{PyCode}
 use Rattle.py_code.specs.declared.instruction.Instruction.TheVariants.{WithCleanupStart}
 use Rattle.py_code.specs.declared.unit.CodeUnit.{CodeUnit}
@@ -39,7 +38,7 @@ exits_of o u v first second exits = let same : u ≡ v = cc in ap (λ (w : CodeU
 -- a frame has the room that it had, whatever it waits for
 room_stays : (objects : List Payload) (f : Framed) (last phase : ℕ) (wants : Expect) (m : Move) → HasNeeds objects f m → HasNeeds objects (record f { state = record f.state { last = last; phase = phase; wants = wants } }) m
 room_stays objects f last phase wants (Plainly step) can = can
-room_stays objects f last phase wants (Loads p k) can = can
+room_stays objects f last phase wants (Loads c k) can = can
 room_stays objects f last phase wants (Decides v k) can = can
 room_stays objects f last phase wants (Manages m k) can = can
 room_stays objects f last phase wants (Resolves v k) can = can

@@ -1,5 +1,5 @@
 -- What units do, by their arguments: rows on a state, and moves of a frame by the code that it runs.
-use Rattle.std.specs.Prelude.{ℕ, Bool, Option, Some, None, List, ◌∷◌, slice_get}
+use Rattle.std.specs.Prelude.{ℕ, Bool, Option, None, ◌∷◌, slice_get}
 use Rattle.py_code.specs.Literals.{literals_of}
 use Rattle.py_code.specs.Operators.{raise_kinds, test_operators}
 use Rattle.py_code.specs.declared.instruction.Instruction.{Instruction}

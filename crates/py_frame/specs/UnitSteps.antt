@@ -1,6 +1,7 @@
 -- What a unit did, as its row says it.
-use Rattle.std.specs.Prelude.{ℕ, ◌+◌, ◌≡◌, Bool, true, Option, None, Some, is_some, List, [], ◌∷◌, length}
+use Rattle.std.specs.Prelude.{ℕ, ◌+◌, ◌≡◌, Bool, Option, None, Some, List, [], ◌∷◌, length, map}
 use Rattle.py_code.specs.declared.literal.Literal.{Literal}
+use Rattle.py_code.specs.Literals.{constant_of, in_order}
 use Rattle.py_objects.specs.declared.payload.Payload.{Payload}
 use Rattle.py_objects.specs.declared.payload.Payload.TheVariants as payload
 use Rattle.py_objects.specs.Objects.{Obj, HasPayload}
@@ -14,7 +15,8 @@ use Rattle.py_rows.specs.declared.expect.Expect.TheVariants as expect
 use Rattle.py_rows.specs.declared.block.UnwindReason.{UnwindReason}
 use Rattle.py_rows.specs.States.{State, Step, Goes, Tells, Stuck, Move, Plainly, Loads, Decides, Manages, Resolves, Exits}
 use Rattle.py_rows.specs.Unwinding.{unwind}
-use Rattle.py_rows.specs.Rows.{payload_of, moves_entries, asks_once}
+use Rattle.py_rows.specs.Rows.{moves_entries, asks_once}
+use Rattle.py_rows.specs.Constants.{HasConstant, HaveConstants}
 use Rattle.py_rows.specs.RunOfRows.{MayLead}
 use Rattle.py_rows.specs.Laws.{LeadsTo, IsWithin, RaisedThere}
 use Rattle.py_frame.specs.declared.unit_step.UnitStep.{UnitStep}
@@ -30,7 +32,7 @@ HasRoom f step = LeadsTo (IsWithin (length f.state.stack + f.room) (length f.sta
 -- what a move needs is there: room for what it leads to, whatever object is loaded later, and what it goes by
 abbrev pub HasNeeds : List Payload → Framed → Move → Type 0
 HasNeeds objects f (Plainly step) = HasRoom f step
-HasNeeds objects f (Loads p g) = (objects' : List Payload) (v : Obj) → Grows objects objects' → HasPayload objects' v p → HasRoom f (g v)
+HasNeeds objects f (Loads c g) = (objects' : List Payload) (v : Obj) → Grows objects objects' → HasConstant objects' v c → HasRoom f (g v)
 HasNeeds objects f (Decides v g) = ((b : Bool) × HasPayload objects v (payload.Bool b)) × ((b : Bool) → HasRoom f (g b))
 HasNeeds objects f (Manages m g) = ((p : Payload) × HasPayload objects m p) × ((b : Bool) → HasRoom f (g b))
 HasNeeds objects f (Resolves v g) = ((p : Payload) × HasPayload objects v p) × ((p : Payload) → HasRoom f (g p))
@@ -92,19 +94,14 @@ abbrev pub PopsBlock : Framed → Option Block → Framed → Type 0
 PopsBlock f None g = (f.state.blocks ≡ []) × (g ≡ f)
 PopsBlock f (Some b) g = f ≡ record g { state = record g.state { blocks = b ∷ g.state.blocks }; block_room = f.block_room }
 
--- an object is of a constant's payload
-abbrev pub HasIf : List Payload → Option Payload → Obj → Type 0
-HasIf objects None v = ⊥
-HasIf objects (Some p) v = HasPayload objects v p
-
+-- an object is one of a constant that is there
 abbrev pub IsConstant : List Payload → Option Literal → Obj → Type 0
 IsConstant objects None v = ⊥
-IsConstant objects (Some l) v = HasIf objects (payload_of l) v
+IsConstant objects (Some l) v = HasConstant objects v (constant_of l)
 
--- a constant that is there, and of which an object can be made so far
-abbrev pub IsLoaded : Option Literal → Type 0
-IsLoaded None = ⊥
-IsLoaded (Some l) = is_some (payload_of l) ≡ true
+-- these objects are those of constants, one of each in order
+abbrev pub AreConstants : List Payload → List Obj → List Literal → Type 0
+AreConstants objects vs literals = HaveConstants objects (length objects) vs (in_order (map constant_of literals))
 
 -- the call of an object with these arguments asks this, by what the object is
 abbrev pub IsCall : List Payload → Obj → List Obj → Request → Type 0

@@ -1,18 +1,19 @@
 //! Instructions that load constants.
 
-ghost use Rattle.std.specs.Prelude.{◌≡◌, ◌+◌, ◌^◌, ◌<◌, Some, is_some, true, IfOk, OnErr};
-ghost use Rattle.py_rows.specs.Rows.{payload_of};
+ghost use Rattle.std.specs.Prelude.{◌≡◌, ◌+◌, ◌^◌, ◌<◌, is_some, true, IfOk, OnErr};
+ghost use Rattle.py_code.specs.Literals.{constant_of, literals_of};
+ghost use Rattle.py_rows.specs.Constants.{HasConstant};
 ghost use Rattle.py_frame.specs.Added.{AddsConstants};
 ghost use Rattle.py_frame.specs.Cores.{CanMove, IsUnchanged, MayDo};
 ghost use Rattle.py_frame.specs.UnitRows.{constant_at, loading, returning};
-ghost use Rattle.py_frame.specs.UnitSteps.{IsConstant, IsLoaded};
+ghost use Rattle.py_frame.specs.UnitSteps.{AreConstants, IsConstant};
 
 use crate::executing::ExecutingFrame;
 use crate::objects::add_constant;
 use crate::scene::Scene;
 use crate::unit_step::UnitStep;
-use py_code::{Literal, NoMemory};
-use py_objects::{Payload, PyObjectRef, Store};
+use py_code::{Literal, LiteralList, NoMemory};
+use py_objects::{ObjList, Payload, PyObjectRef, Store};
 use py_rows::UnwindReason;
 use py_stack::ValueStack;
 use std::alloc::Global;
@@ -56,9 +57,9 @@ impl<S: ValueStack> ExecutingFrame<S> {
     }
 }
 
-/// A new object of a constant's payload.
+/// A new object of a constant.
 fn load(scene: &Scene<'_>, store: &mut Store, place: usize) -> Result<PyObjectRef, NoMemory>
-    requires { IsLoaded (constant_at scene.now place) }
+    requires { is_some (constant_at scene.now place) ≡ true }
     ensures constant { IfOk result (IsConstant store.new.made (constant_at scene.now place)) }
     ensures objects { AddsConstants store.old.made store.new.made }
     ensures unchanged { store.new ≡ record store.old { made = store.new.made } }
@@ -69,29 +70,44 @@ fn load(scene: &Scene<'_>, store: &mut Store, place: usize) -> Result<PyObjectRe
     }
 }
 
-/// A new object of this constant's payload.
+/// A new object of this constant. Its text is a copy, and the items of a tuple are new objects too.
+#[cycle(add)]
 fn add(alloc: Global, store: &mut Store, literal: &Literal) -> Result<PyObjectRef, NoMemory>
-    requires { is_some (payload_of literal.now) ≡ true }
-    ensures constant { IfOk result (IsConstant store.new.made (Some literal.now)) }
+    ensures constant { IfOk result (λ v. HasConstant store.new.made v (constant_of literal.now)) }
     ensures objects { AddsConstants store.old.made store.new.made }
     ensures unchanged { store.new ≡ record store.old { made = store.new.made } }
 {
-    let payload = payload_of(alloc, literal)?;
-    add_constant(store, payload)
+    match literal {
+        Literal::None => add_constant(store, Payload::None),
+        Literal::Bool(truth) => add_constant(store, Payload::Bool(*truth)),
+        Literal::Int(number) => add_constant(store, Payload::Int(*number)),
+        Literal::Str(text) => {
+            let text = text.copy(alloc)?;
+            add_constant(store, Payload::Str(text))
+        }
+        Literal::Tuple(items) => {
+            let items = add_items(alloc, store, items)?;
+            add_constant(store, Payload::Tuple(items))
+        }
+        Literal::Code(place) => add_constant(store, Payload::Code(*place)),
+        Literal::Builtin(function) => add_constant(store, Payload::Builtin(*function)),
+    }
 }
 
-/// What an object of a constant is. Its text is a copy.
-fn payload_of(alloc: Global, literal: &Literal) -> Result<Payload, NoMemory>
-    requires { is_some (payload_of literal.now) ≡ true }
-    ensures { IfOk result (λ payload. payload_of literal.now ≡ Some payload) }
+/// New objects of these constants, in order.
+#[cycle(add)]
+fn add_items(alloc: Global, store: &mut Store, literals: &LiteralList) -> Result<ObjList, NoMemory>
+    ensures items { IfOk result (λ vs. AreConstants store.new.made vs (literals_of literals.now)) }
+    ensures objects { AddsConstants store.old.made store.new.made }
+    ensures unchanged { store.new ≡ record store.old { made = store.new.made } }
 {
-    match literal {
-        Literal::None => Ok(Payload::None),
-        Literal::Bool(truth) => Ok(Payload::Bool(*truth)),
-        Literal::Int(number) => Ok(Payload::Int(*number)),
-        Literal::Str(text) => Ok(Payload::Str(text.copy(alloc)?)),
-        Literal::Builtin(function) => Ok(Payload::Builtin(*function)),
-        Literal::Tuple(_) => unreachable!(),
-        Literal::Code(_) => unreachable!(),
+    let mut objects = ObjList::new(alloc);
+    for place in 0..literals.len() {
+        let Some(literal) = literals.get(place) else {
+            unreachable!()
+        };
+        let object = add(alloc, store, literal)?;
+        objects.push(object)?;
     }
+    Ok(objects)
 }

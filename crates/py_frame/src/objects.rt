@@ -1,13 +1,11 @@
 //! What objects are, by the store.
 
-ghost use Rattle.std.specs.Prelude.{◌≡◌, Bool, true, false, Some, IfOk};
-ghost use Rattle.py_code.specs.declared.literal.Literal.{Literal as LiteralOf};
+ghost use Rattle.std.specs.Prelude.{◌≡◌, Bool, true, false, IfOk, length};
 ghost use Rattle.py_objects.specs.declared.payload.Payload.{Payload as PayloadOf};
 ghost use Rattle.py_objects.specs.declared.payload.Payload.TheVariants as payload;
 ghost use Rattle.py_objects.specs.Objects.{HasPayload, IsTraceback, as_exception, as_object};
 ghost use Rattle.py_objects.specs.Callees.{builtin_of, is_manager};
-ghost use Rattle.py_rows.specs.Rows.{payload_of};
-ghost use Rattle.py_frame.specs.Added.{AddsConstants};
+ghost use Rattle.py_frame.specs.Added.{AddsConstants, IsOfConstant};
 
 use py_code::{BuiltinFn, NoMemory};
 use py_objects::{Payload, PyBaseExceptionRef, PyObjectRef, Store};
@@ -68,9 +66,10 @@ pub(crate) fn is_traceback(store: &Store, value: PyObjectRef) -> bool
     value.number < store.len() && matches!(store.get(value), Payload::Traceback(_))
 }
 
-/// A new object of a constant's payload.
+/// A new object with a payload that a constant may have.
 pub(crate) fn add_constant(store: &mut Store, payload: Payload) -> Result<PyObjectRef, NoMemory>
-    requires { (literal : LiteralOf) × (payload_of literal ≡ Some payload) }
+    requires { IsOfConstant (length store.old.made) payload }
+    ensures number { IfOk result (λ object. object.number ≡ length store.old.made) }
     ensures has { IfOk result (λ object. HasPayload store.new.made object payload) }
     ensures objects { AddsConstants store.old.made store.new.made }
     ensures unchanged { store.new ≡ record store.old { made = store.new.made } }

@@ -23,7 +23,7 @@ use Rattle.py_lines.specs.Statements.{Head}
 use Rattle.py_grammar.specs.declared.rules.Inside.{Inside}
 use Rattle.py_grammar.specs.declared.script.Script.{Script}
 use Rattle.py_grammar.specs.Rules.{Declared, is_among, all_differ, declares, declares_callable, is_callable, is_class, is_base, is_new, is_builtin_class, callables, may_declare, may_manage, numbers_drive, is_drivable, is_thrown, may_drive, may_yield, may_operate, may_compute, may_compute_all, may_begin, may_open, body_of, within}
-use Rattle.py_grammar.specs.Grammar.{Decl, ClassDecl, ManagerDecl, FunctionDecl, RawDecl, decl_name, decl_kind, Item, Declares, Codes, Drives, declared_as, form_rows, suite_rows, clauses_rows, end_row, else_row, finally_row, code_rows, decl_rows, WellForm, WellSuite, WellClauses, WellCode, WellDecl, WellItems, items_rows, decls_in, drives_in}
+use Rattle.py_grammar.specs.Grammar.{Decl, ClassDecl, ManagerDecl, FunctionDecl, RawDecl, decl_name, decl_kind, coded_name, codes_in, Item, Declares, Codes, Drives, declared_as, form_rows, suite_rows, clauses_rows, end_row, else_row, finally_row, said_row, unit_row, inner_rows, code_rows, decl_rows, WellForm, WellSuite, WellClauses, WellCode, WellDecl, WellItems, items_rows, decls_in, drives_in}
 use Rattle.py_grammar.specs.RawText.{RawText, head_of, raw_of}
 use Rattle.py_grammar.specs.Script.{IsScript, decls_of}
 use Rattle.py_grammar.specs.Tables.{names_of}
@@ -362,12 +362,24 @@ decl_keeps ds (FunctionDecl t) w low short =
     record { no_class = k.0; founded = k.1 }
 decl_keeps ds (RawDecl b) w low short = absurd w
 
+-- the names of what can be called are those of the codes
+callables_codes : (ds : List Decl) → callables (map declared_as ds) ≡ map coded_name (codes_in ds)
+callables_codes [] = refl
+callables_codes (ClassDecl c b ∷ ds) = callables_codes ds
+callables_codes (ManagerDecl m e x ∷ ds) = callables_codes ds
+callables_codes (FunctionDecl t ∷ ds) = ap (λ r. t.name ∷ r) (callables_codes ds)
+callables_codes (RawDecl b ∷ ds) = ap (λ r. b.name ∷ r) (callables_codes ds)
+
 -- so does a raw code, by its lines
-code_keeps : (ds : List Decl) (t : RawText) → WellCode (map declared_as ds) t → IsWellDeclared ds (RawDecl (raw_of t))
-code_keeps ds t w =
+code_keeps : (ds : List Decl) (t : RawText) → WellCode (map declared_as ds) t → size_of (code_rows t) ≤ 1048576 → IsWellDeclared ds (RawDecl (raw_of t))
+code_keeps ds t w short =
     let new : Bool = is_new (map declared_as ds) t.name in
     let parts = and_parts (new && all_differ t.params) (nat_le (length t.params) 255) w.declared in
-    let h : HeadKeeps (head_of t.head) = head_keeps (callables (map declared_as ds)) t.head w.head in
+    let inner = size_append (inner_rows t) (end_row ∷ []) in
+    let parted = size_append (map said_row t.head) (map unit_row t.units) in
+    let few : size_of (map said_row t.head) ≤ 1048576 = omega (arith, inner, parted, short) in
+    let h : HeadKeeps (map coded_name (codes_in ds)) (head_of t.head) =
+    subst (λ (fs : List Name). HeadKeeps fs (head_of t.head)) (callables_codes ds) (head_keeps (callables (map declared_as ds)) t.head w.head few) in
     record {
       no_class = (new_name ds t.name (headed_new ds t.name t.params w.declared)).1;
       founded = record {
@@ -398,7 +410,9 @@ decls_keep (Declares e ∷ is) ds made w low short (suc i) d at =
     (decls_keep is (ds ++ e ∷ []) made (well_behind_one ds e made is w.1) (low_parts (decl_rows e) (items_rows is) low).1 (omega (arith, all, short)) i d at)
 decls_keep (Codes t ∷ is) ds made w low short zero d at =
     let same : RawDecl (raw_of t) ≡ d = cc at in
-    subst (IsWellDeclared (ds ++ [])) same (subst (λ x. IsWellDeclared x (RawDecl (raw_of t))) (sym (append-nil ds)) (code_keeps ds t w.0))
+    let all = size_append (code_rows t) (items_rows is) in
+    subst (IsWellDeclared (ds ++ [])) same
+    (subst (λ x. IsWellDeclared x (RawDecl (raw_of t))) (sym (append-nil ds)) (code_keeps ds t w.0 (omega (arith, all, short))))
 decls_keep (Codes t ∷ is) ds made w low short (suc i) d at =
     let e : Decl = RawDecl (raw_of t) in
     let all = size_append (code_rows t) (items_rows is) in

@@ -1,10 +1,11 @@
 -- Small raw codes, by computing.
-use Rattle.std.proofs.Common.{[], ◌∷◌, refl}
+use Rattle.std.proofs.Common.{List, [], ◌∷◌, refl}
 use Rattle.std.specs.Prelude.{codes, pos}
 use Rattle.py_code.specs.declared.instruction.Instruction.TheVariants as op
 use Rattle.py_tree.specs.declared.body.BodyKind.TheVariants as body
 use Rattle.py_tree.specs.Tree.{nothing}
 use Rattle.py_lines.specs.declared.constant.RawAtom.TheVariants as atom
+use Rattle.py_lines.specs.declared.constant.RawConst.{RawConst}
 use Rattle.py_lines.specs.declared.constant.RawConst.TheVariants as constant
 use Rattle.py_lines.specs.declared.drive.DriveLine.TheVariants as drive
 use Rattle.py_lines.specs.declared.header.Header.TheVariants as header
@@ -16,8 +17,16 @@ use Rattle.py_lines.specs.Line.{Said}
 use Rattle.py_lines.specs.Statements as said
 use Rattle.py_grammar.specs.Grammar.{ManagerDecl, FunctionDecl, Codes, Declares, Drives}
 use Rattle.py_grammar.specs.Reader.{Bad}
-use Rattle.py_grammar.specs.WorkedRaw.{RawIsScript, TwiceBad, LateBad, ShallowBad, CoroBad, VarArgsBad, VarKwBad, NamedBad, CellsBad, FreesBad, CodeConstBad, TupleConstBad, OpBad, AskBad, CompareBad, TestBad, RaiseBad, EmptyBad, OtherBad, OpenBad, SameParamsBad, SameNameBad}
+use Rattle.py_grammar.specs.WorkedRaw.{RawIsScript, TwiceBad, LateBad, ShallowBad, CoroBad, VarArgsBad, VarKwBad, NamedBad, CellsBad, FreesBad, OwnConstBad, ClassConstBad, OpBad, AskBad, CompareBad, TestBad, RaiseBad, EmptyBad, OtherBad, OpenBad, SameParamsBad, SameNameBad}
 use Rattle.py_grammar.proofs.Verdicts.{verdict_true}
+
+-- those of the last raw code
+abbrev constants : List RawConst
+constants = constant.Code (codes "f")
+    ∷ constant.Tuple (atom.Int (pos 1) ∷ atom.Str (codes "a") ∷ [])
+    ∷ constant.Tuple []
+    ∷ constant.Code (codes "g")
+    ∷ []
 
 pub raw_is_script : RawIsScript
 raw_is_script = record {
@@ -35,7 +44,7 @@ raw_is_script = record {
         line = 10;
         name = codes "h";
         params = [];
-        head = raw.Depth 2 ∷ raw.Consts (constant.Atom (atom.Str (codes "x")) ∷ []) ∷ [];
+        head = raw.Depth 2 ∷ raw.Consts constants ∷ [];
         units = record { line = 13; op = op.ReturnConst; arg = 0; note = note.Live [] [] } ∷ [];
       })
       ∷ Declares (ManagerDecl (codes "m") (codes "f") (codes "h"))
@@ -52,7 +61,7 @@ raw_is_script = record {
       ∷ Said line.End
       ∷ Said (line.Header (header.Code (codes "h") []))
       ∷ Said (line.Raw (raw.Depth 2))
-      ∷ Said (line.Raw (raw.Consts (constant.Atom (atom.Str (codes "x")) ∷ [])))
+      ∷ Said (line.Raw (raw.Consts constants))
       ∷ Said (line.Raw (raw.Unit op.ReturnConst 0 (note.Live [] [])))
       ∷ Said line.End
       ∷ Said (line.Header (header.Manager (codes "m") (codes "f") (codes "h")))
@@ -110,15 +119,30 @@ frees_bad =
     verdict_true (codes "code f" ∷ codes "frees a" ∷ []) (Bad 2)
     (Said (line.Header (header.Code (codes "f") [])), (refl, tt), (Said (line.Raw (raw.Frees (codes "a" ∷ []))), (refl, tt), refl))
 
-pub code_const_bad : CodeConstBad
-code_const_bad =
-    verdict_true (codes "def g" ∷ codes "end" ∷ codes "code f" ∷ codes "consts @g" ∷ []) (Bad 4)
-    (Said (line.Header (header.Def body.Function (codes "g") [])), (refl, tt), (Said line.End, (refl, tt), (Said (line.Header (header.Code (codes "f") [])), (refl, tt), (Said (line.Raw (raw.Consts (constant.Code (codes "g") ∷ []))), (refl, tt), refl))))
+pub own_const_bad : OwnConstBad
+own_const_bad =
+    verdict_true (codes "code f" ∷ codes "consts @f" ∷ []) (Bad 2)
+    (Said (line.Header (header.Code (codes "f") [])), (refl, tt), (Said (line.Raw (raw.Consts (constant.Code (codes "f") ∷ []))), (refl, tt), refl))
 
-pub tuple_const_bad : TupleConstBad
-tuple_const_bad =
-    verdict_true (codes "code f" ∷ codes "consts (1 2)" ∷ []) (Bad 2)
-    (Said (line.Header (header.Code (codes "f") [])), (refl, tt), (Said (line.Raw (raw.Consts (constant.Tuple (atom.Int (pos 1) ∷ atom.Int (pos 2) ∷ []) ∷ []))), (refl, tt), refl))
+pub class_const_bad : ClassConstBad
+class_const_bad =
+    verdict_true (codes "class C Exception" ∷ codes "def g" ∷ codes "end" ∷ codes "code f" ∷ codes "consts @g @C" ∷ []) (Bad 5) (
+      Said (line.Header (header.Class (codes "C") (codes "Exception"))),
+      (refl, tt),
+      (
+        Said (line.Header (header.Def body.Function (codes "g") [])),
+        (refl, tt),
+        (
+          Said line.End,
+          (refl, tt),
+          (
+            Said (line.Header (header.Code (codes "f") [])),
+            (refl, tt),
+            (Said (line.Raw (raw.Consts (constant.Code (codes "g") ∷ constant.Code (codes "C") ∷ []))), (refl, tt), refl),
+          ),
+        ),
+      ),
+    )
 
 pub op_bad : OpBad
 op_bad =

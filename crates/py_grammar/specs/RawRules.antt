@@ -33,11 +33,11 @@ is_heeded flag.VarKw = false
 is_heeded flag.NewLocals = true
 is_heeded flag.Optimized = true
 
--- whether a constant may stand behind functions of these names: so far frames load no codes, whichever functions they are of, and no tuples
+-- whether a constant may stand behind functions of these names: a code is that of one of them
 abbrev pub may_load : List Name → RawConst → Bool
 may_load fs (constant.Atom a) = true
-may_load fs (constant.Code f) = false
-may_load fs (constant.Tuple xs) = false
+may_load fs (constant.Code f) = is_among f fs
+may_load fs (constant.Tuple xs) = true
 
 -- whether a raw code behind functions of these names may have this header line:
 -- so far no parameter takes named arguments alone, and there are no cells

@@ -11,9 +11,9 @@ use Rattle.py_lines.specs.declared.drive.DriveLine.TheVariants as drive
 use Rattle.py_grammar.specs.declared.script.Script.{Script}
 use Rattle.py_grammar.specs.declared.raw_block.RawBlock.{RawBlock}
 use Rattle.py_grammar.specs.declared.raw_block.RawCounts.{RawCounts}
-use Rattle.py_grammar.specs.Grammar.{Decl, ClassDecl, ManagerDecl, FunctionDecl, RawDecl, decl_name}
+use Rattle.py_grammar.specs.Grammar.{Decl, ClassDecl, ManagerDecl, FunctionDecl, RawDecl, decl_name, coded_name, codes_in}
 use Rattle.py_grammar.specs.RawRules.{all_run, is_heeded}
-use Rattle.py_grammar.specs.Rules.{is_builtin_class}
+use Rattle.py_grammar.specs.Rules.{is_among, is_builtin_class}
 use Rattle.py_grammar.specs.Script.{decls_of}
 
 -- no two are the same
@@ -40,26 +40,26 @@ IsFunction decls f = Any (IsFunctionNamed f) decls
 abbrev pub IsClass : List Decl → Name → Type 0
 IsClass decls c = Any (IsClassNamed c) decls ⊎ (is_builtin_class c ≡ true)
 
--- a constant of a raw code that frames load so far: one that holds no others, and no code
-abbrev pub IsLoadable : RawConst → Type 0
-IsLoadable (constant.Atom a) = Unit {0}
-IsLoadable (constant.Code f) = ⊥
-IsLoadable (constant.Tuple xs) = ⊥
+-- a constant of a raw code, after codes of these names: a code is one of them, and a tuple is no longer than a script
+abbrev pub IsLoadable : List Name → RawConst → Type 0
+IsLoadable earlier (constant.Atom a) = Unit {0}
+IsLoadable earlier (constant.Code f) = is_among f earlier ≡ true
+IsLoadable earlier (constant.Tuple xs) = length xs ≤ 1048576
 
 -- no parameter takes named arguments alone
 abbrev pub NoneNamed : Option RawCounts → Type 0
 NoneNamed None = Unit {0}
 NoneNamed (Some c) = c.named ≡ 0
 
--- a raw code has what frames heed, load and run so far
-pub record IsWellCoded (b : RawBlock) : Type 0 where
+-- after codes of these names, a raw code has what frames heed, load and run so far
+pub record IsWellCoded (earlier : List Name) (b : RawBlock) : Type 0 where
   pub distinct : AreDistinct b.params
   pub few : length b.params ≤ 255
   pub flags : All (λ f. is_heeded f ≡ true) b.flags
   pub counts : NoneNamed b.counts
   pub cells : b.cells ≡ []
   pub frees : b.frees ≡ []
-  pub consts : All IsLoadable b.consts
+  pub consts : All (IsLoadable earlier) b.consts
   pub some : b.units ≢ []
   pub run : all_run 0 b.units ≡ true
 
@@ -69,7 +69,7 @@ abbrev pub IsFounded : List Decl → Decl → Type 0
 IsFounded decls (ClassDecl c b) = IsClass decls b
 IsFounded decls (ManagerDecl m e x) = IsFunction decls e × IsFunction decls x
 IsFounded decls (FunctionDecl t) = IsCompilable t
-IsFounded decls (RawDecl b) = IsWellCoded b
+IsFounded decls (RawDecl b) = IsWellCoded (map coded_name (codes_in decls)) b
 
 -- so does a declaration that isn't named like a built-in class
 pub record IsWellDeclared (decls : List Decl) (d : Decl) : Type 0 where

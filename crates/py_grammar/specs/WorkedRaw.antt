@@ -16,7 +16,7 @@ use Rattle.py_grammar.specs.Script.{Text, Spells, IsBadLine}
 abbrev pub raw_text : Text
 raw_text = codes "def g" ∷ codes "end" ∷ codes "code f a" ∷ codes "consts None 5" ∷ codes "depth 1" ∷ codes "flags newlocals"
     ∷ codes "u LoadFast 0 - -" ∷ codes "u ReturnValue 0 - -" ∷ codes "end" ∷ codes "code h" ∷ codes "depth 2"
-    ∷ codes "consts 'x'" ∷ codes "u ReturnConst 0 - -" ∷ codes "end" ∷ codes "manager m f h" ∷ codes "call f" ∷ []
+    ∷ codes "consts @f (1 'a') () @g" ∷ codes "u ReturnConst 0 - -" ∷ codes "end" ∷ codes "manager m f h" ∷ codes "call f" ∷ []
 
 abbrev pub raw_decls : List Decl
 raw_decls = FunctionDecl (record { kind = body.Function; name = codes "g"; params = []; suite = nothing; line = 1 })
@@ -46,7 +46,11 @@ raw_decls = FunctionDecl (record { kind = body.Function; name = codes "g"; param
       cells = [];
       frees = [];
       names = [];
-      consts = constant.Atom (atom.Str (codes "x")) ∷ [];
+      consts = constant.Code (codes "f")
+          ∷ constant.Tuple (atom.Int (pos 1) ∷ atom.Str (codes "a") ∷ [])
+          ∷ constant.Tuple []
+          ∷ constant.Code (codes "g")
+          ∷ [];
       depth = 2;
       units = record { line = 13; op = op.ReturnConst; arg = 0; note = note.Live [] [] } ∷ [];
     })
@@ -98,12 +102,14 @@ CellsBad = IsBadLine (bytes_of (codes "code f" ∷ codes "cells a" ∷ [])) 2
 abbrev pub FreesBad : Type 0
 FreesBad = IsBadLine (bytes_of (codes "code f" ∷ codes "frees a" ∷ [])) 2
 
--- no constant is a code or a tuple, which frames do not load yet
-abbrev pub CodeConstBad : Type 0
-CodeConstBad = IsBadLine (bytes_of (codes "def g" ∷ codes "end" ∷ codes "code f" ∷ codes "consts @g" ∷ [])) 4
+-- a constant that is a code is an earlier one: neither its own
+abbrev pub OwnConstBad : Type 0
+OwnConstBad = IsBadLine (bytes_of (codes "code f" ∷ codes "consts @f" ∷ [])) 2
 
-abbrev pub TupleConstBad : Type 0
-TupleConstBad = IsBadLine (bytes_of (codes "code f" ∷ codes "consts (1 2)" ∷ [])) 2
+-- nor one of another name, which may be that of a class
+abbrev pub ClassConstBad : Type 0
+ClassConstBad =
+    IsBadLine (bytes_of (codes "class C Exception" ∷ codes "def g" ∷ codes "end" ∷ codes "code f" ∷ codes "consts @g @C" ∷ [])) 5
 
 -- no instruction stands that frames do not run yet, even where control never comes
 abbrev pub OpBad : Type 0

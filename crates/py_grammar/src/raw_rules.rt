@@ -31,13 +31,13 @@ fn are_heeded(flags: &[RawFlag]) -> bool
 }
 
 /// Whether a constant may stand behind functions of these names.
-fn may_load(_functions: &NameSet, constant: &RawConst) -> bool
-    ensures { result ≡ rule.may_load _functions.now constant.now }
+fn may_load(functions: &NameSet, constant: &RawConst) -> bool
+    ensures { result ≡ rule.may_load functions.now constant.now }
 {
     match constant {
         RawConst::Atom(_) => true,
-        RawConst::Code(_) => false,
-        RawConst::Tuple(_) => false,
+        RawConst::Code(name) => functions.contains(name),
+        RawConst::Tuple(_) => true,
     }
 }
 

@@ -1,6 +1,6 @@
 //! Small raw codes, worked by hand.
 
-ghost use Rattle.py_grammar.specs.WorkedRaw.{RawIsScript, TwiceBad, LateBad, ShallowBad, CoroBad, VarArgsBad, VarKwBad, NamedBad, CellsBad, FreesBad, CodeConstBad, TupleConstBad, OpBad, AskBad, CompareBad, TestBad, RaiseBad, EmptyBad, OtherBad, OpenBad, SameParamsBad, SameNameBad};
+ghost use Rattle.py_grammar.specs.WorkedRaw.{RawIsScript, TwiceBad, LateBad, ShallowBad, CoroBad, VarArgsBad, VarKwBad, NamedBad, CellsBad, FreesBad, OwnConstBad, ClassConstBad, OpBad, AskBad, CompareBad, TestBad, RaiseBad, EmptyBad, OtherBad, OpenBad, SameParamsBad, SameNameBad};
 
 /// States which lines are a small script with raw codes, and which line is the bad one of others, and does nothing.
 pub fn worked_raw_codes()
@@ -14,8 +14,8 @@ pub fn worked_raw_codes()
     ensures named_bad { NamedBad }
     ensures cells_bad { CellsBad }
     ensures frees_bad { FreesBad }
-    ensures code_const_bad { CodeConstBad }
-    ensures tuple_const_bad { TupleConstBad }
+    ensures own_const_bad { OwnConstBad }
+    ensures class_const_bad { ClassConstBad }
     ensures op_bad { OpBad }
     ensures ask_bad { AskBad }
     ensures compare_bad { CompareBad }

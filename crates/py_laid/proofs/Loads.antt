@@ -8,6 +8,7 @@ use Rattle.py_code.specs.declared.instruction.Instruction.{Instruction}
 use Rattle.py_code.specs.declared.instruction.Instruction.TheVariants.{LoadConst, LoadFast, LoadGlobal, JumpIfFalse}
 use Rattle.py_code.specs.declared.literal.Literal.{Literal, None as NoneLiteral, Bool as BoolLiteral, Int as IntLiteral, Str as StrLiteral}
 use Rattle.py_code.specs.declared.names.NameId.{NameId}
+use Rattle.py_code.specs.Literals.{constant_of}
 use Rattle.py_objects.specs.declared.payload.Payload.{Payload}
 use Rattle.py_objects.specs.declared.payload.Payload.TheVariants as payload
 use Rattle.py_objects.specs.declared.request.Request.TheVariants.{Global, Truth, Unbound}
@@ -18,7 +19,8 @@ use Rattle.py_rows.specs.declared.block.Block.{Block}
 use Rattle.py_rows.specs.States.{State, Step, Goes, Move, Loads as Takes, Plainly, Decides, pushed}
 use Rattle.py_rows.specs.Handled.{handled_in}
 use Rattle.py_rows.specs.Asked.{name_in, name_of_local, name_of_global, on_none}
-use Rattle.py_rows.specs.Rows.{payload_of, or_stuck, loads as load_move, load_fast, asks as asks_for, asks_if, act}
+use Rattle.py_rows.specs.Constants.{HasConstant}
+use Rattle.py_rows.specs.Rows.{loads as load_move, load_fast, asks as asks_for, asks_if, act}
 use Rattle.py_rows.specs.Receiving.{jumps_if, answered}
 use Rattle.py_tree.specs.declared.expr.Atom.{Atom}
 use Rattle.py_tree.specs.declared.expr.Atom.TheVariants as atom
@@ -82,19 +84,19 @@ pub true_stays : (ex : Execution) → TestsBy ex JumpIfFalse (λ b. b)
 true_stays ex to v s = (refl, refl)
 
 module _ (ex : Execution) where
-  -- a unit that takes a constant of this payload
+  -- a unit that takes a constant, whose objects are of this payload
   pub const_run : {Q : Type 0} {scope : Scope} {line at to : ℕ} {op : Instruction} {literal : Literal} → StandsConst (parts_of ex) scope line at op literal to
       → (p : Payload) (f : (k p b : ℕ) → Obj → Step) (stack : List Obj) (blocks : List Block) (now : Now) (last n : ℕ) (ts : List Own)
-      → payload_of literal ≡ Some p
+      → ((v : Obj) → HasConstant ex.objects v (constant_of literal) → HasPayload ex.objects v p)
       → ((i k q : ℕ) → act (setting_of ex) op i (begun k q stack blocks now) ≡ load_move (slice_get (parts_of ex).constants i) (f k q (suc k)))
       → From ex n at last stack blocks now ts
       → (ts ≡ [] → Q)
       → ((v : Obj) (k q m : ℕ) → at ≤ k → suc k ≡ to → m < n → HasPayload ex.objects v p → Behind ex m (f k q to v) ts → Q)
       → Q
-  const_run (i, stands, is_constant) p f stack blocks now last n ts is_payload moves run cut go =
-      stands_run ex stands (λ k q b. Takes p (f k q b)) stack blocks now last n ts
-      (λ k q. moves i k q ∙ ap (λ (o : Option Literal). load_move o (f k q (suc k))) is_constant ∙ ap (λ (o : Option Payload). or_stuck o (f k q (suc k))) is_payload) run cut
-      (λ k q m from is_next less has_op of_line (done, (v, has, is), step). go v k q m from is_next less has (subst (λ (s : Step). Behind ex m s ts) (sym is) step))
+  const_run {literal = literal} (i, stands, is_constant) p f stack blocks now last n ts is_payload moves run cut go =
+      stands_run ex stands (λ k q b. Takes (constant_of literal) (f k q b)) stack blocks now last n ts
+      (λ k q. moves i k q ∙ ap (λ (o : Option Literal). load_move o (f k q (suc k))) is_constant) run cut
+      (λ k q m from is_next less has_op of_line (done, (v, has, is), step). go v k q m from is_next less (is_payload v has) (subst (λ (s : Step). Behind ex m s ts) (sym is) step))
 
   module _ {around : Around} (c : Context ex around) (now : Now) (same : length now.locals ≡ length ex.vars) where
     abbrev env : Env
@@ -109,7 +111,7 @@ module _ (ex : Execution) where
         (stops : (v : Obj) (i : ℕ) → V (Given v) i [])
         (later : (v : Obj) (m i : ℕ) (us : List Own) → m < n → From ex m to to (v ∷ extra ++ c.base) c.blocks now us → V (Given v) i us) where
       -- a constant is pushed
-      literal_run : (literal : Literal) (p : Payload) → payload_of literal ≡ Some p → StandsConst (parts_of ex) scope line at LoadConst literal to → IsLiteral ex.objects p event ts V
+      literal_run : (literal : Literal) (p : Payload) → ((v : Obj) → HasConstant ex.objects v (constant_of literal) → HasPayload ex.objects v p) → StandsConst (parts_of ex) scope line at LoadConst literal to → IsLiteral ex.objects p event ts V
       literal_run literal p is_payload stands =
           const_run stands p (λ k q b v. Goes (running b b 0 (v ∷ extra ++ c.base) c.blocks now)) (extra ++ c.base) c.blocks now last n ts is_payload (λ i k q. refl) run
           (λ none. inl (none, passes.stopped event))
@@ -148,10 +150,10 @@ module _ (ex : Execution) where
 
       -- the load of an atom pushes a value that the atom may have, or raises
       pub atom_run : (a : Atom) → LaidAtom (parts_of ex) scope line a at to → Loads (scene_of ex) line env h a event ts V
-      atom_run atom.None laid = literal_run NoneLiteral payload.None refl laid
-      atom_run (atom.Bool b) laid = literal_run (BoolLiteral b) (payload.Bool b) refl laid
-      atom_run (atom.Int i) laid = literal_run (IntLiteral i) (payload.Int i) refl laid
-      atom_run (atom.Str s) laid = literal_run (StrLiteral s) (payload.Str s) refl laid
+      atom_run atom.None laid = literal_run NoneLiteral payload.None (λ v has. has) laid
+      atom_run (atom.Bool b) laid = literal_run (BoolLiteral b) (payload.Bool b) (λ v has. has) laid
+      atom_run (atom.Int i) laid = literal_run (IntLiteral i) (payload.Int i) (λ v has. has) laid
+      atom_run (atom.Str s) laid = literal_run (StrLiteral s) (payload.Str s) (λ v has. has) laid
       atom_run (atom.Name x) laid = name_run x (list_any (bytes_eq x) ex.vars) refl laid
 
     -- either truth value goes where the jump says, over what lies on the stack

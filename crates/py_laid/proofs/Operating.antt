@@ -238,7 +238,7 @@ module _ (ex : Execution) {around : Around} (c : Context ex around) (now : Now) 
   operation_run es runs way (Driven fn) is V passes scope at to extra last n event ts most low high fits begins asks callee all stands run stops later =
       let before : at < begins = stands_bound (parts_of ex) callee.1 in
       let order : begins ≤ asks = exprs_bound (parts_of ex) es (on scope) line begins asks all in
-      const_run ex callee (payload.Builtin fn) (λ k q b v. Goes (running b b 0 (v ∷ extra ++ c.base) c.blocks now)) (extra ++ c.base) c.blocks now last n ts refl (λ i k q. refl) run
+      const_run ex callee (payload.Builtin fn) (λ k q b v. Goes (running b b 0 (v ∷ extra ++ c.base) c.blocks now)) (extra ++ c.base) c.blocks now last n ts (λ v has. has) (λ i k q. refl) run
       (λ none. subst (λ (us : List Own). EvaluatesAll (scene_of ex) line env h es event us V (λ vs i mid. Finishes (scene_of ex) line way vs h i mid V)) (sym none)
       (cut_exprs es (scene_of ex) line env h event V _ (passes.stopped event) (λ vs. cut_finish (scene_of ex) line way vs h event V (passes.stopped event))))
       (λ g k q m from is_next less has more.

@@ -92,7 +92,7 @@ module _ (ex : Execution) where
   -- the return of None at the end
   none_run : (scope : Scope) (line at to n : ℕ) → StandsConst (parts_of ex) scope line at ReturnConst NoneLiteral to → TellsFrom ex at [] [] n (λ env. EndsBy (scene_of ex) env Normal)
   none_run scope line at to n stands now last m event ts most same run =
-      const_run ex stands payload.None (λ k q b v. unwinds (reason.Returning v) (begun k q [] [] now)) [] [] now last m ts refl (λ i k q. refl) run
+      const_run ex stands payload.None (λ k q b v. unwinds (reason.Returning v) (begun k q [] [] now)) [] [] now last m ts (λ v has. has) (λ i k q. refl) run
       (λ none. inl none)
       (λ v k q j from is_next less has step. inr (v, has, end_unwinds (reason.Returning v) [] k q now j event ts tt (unwinds_left ex (reason.Returning v) k q [] [] now j ts step)))
 

@@ -1,6 +1,6 @@
 -- Code that keeps the typing rules where control may come to what follows it:
 -- one instruction, code behind code, expressions, what is done with values, and jumps.
-use Rattle.std.proofs.Common.{◌≡◌, ◌<◌, ◌≤◌, ◌+◌, ◌-◌, ℕ, zero, suc, List, [], ◌∷◌, Bool, true, false, ◌&&◌, ◌||◌, Some, None, refl, sym, ap, ◌∙◌, subst, length, drop, replicate, arith}
+use Rattle.std.proofs.Common.{◌≡◌, ◌<◌, ◌≤◌, ◌+◌, ◌-◌, ℕ, zero, suc, List, [], ◌∷◌, Bool, true, false, ◌&&◌, Some, None, refl, sym, ap, ◌∙◌, subst, length, drop, replicate, arith}
 use Rattle.std.specs.Prelude.{Option, nat_lt, bytes_eq, ◌==◌}
 use Rattle.std.specs.List.{list_any}
 use Rattle.std.proofs.lemmas.Bool.{and_from, and_parts, or_left, lt-ltb, le-leb}

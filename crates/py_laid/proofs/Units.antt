@@ -109,7 +109,7 @@ module _ (ex : Execution) where
   -- a name is forgotten
   pub forget_run : (around : Around) (scope : Scope) (line at to : ℕ) (x : Name) → LaidForget (parts_of ex) scope line x at to → RunsFrom ex around at to (Forgets x)
   forget_run around scope line at to x (stores, deletes, loads, store, (delete, below)) c low high later now last m event ts most same run =
-      const_run ex loads payload.None (λ k q b v. Goes (running b b 0 (v ∷ c.base) c.blocks now)) c.base c.blocks now last m ts refl (λ i k q. refl) run cut
+      const_run ex loads payload.None (λ k q b v. Goes (running b b 0 (v ∷ c.base) c.blocks now)) c.base c.blocks now last m ts (λ v has. has) (λ i k q. refl) run cut
       (λ v k q j from is_next less has more. store_run x store v c.base c.blocks now stores j ts same more cut
       (λ i fewer rest.
       goes_run ex delete c.base c.base c.blocks c.blocks (put now (place ex.vars x) (Some v)) (put (put now (place ex.vars x) (Some v)) (place ex.vars x) None) deletes i ts

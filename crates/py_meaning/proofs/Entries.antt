@@ -1,5 +1,5 @@
 -- How the objects of a script's declarations come to be, one declaration behind the other.
-use Rattle.std.proofs.Common.{◌≡◌, ◌<◌, ◌≤◌, ◌+◌, ℕ, zero, suc, List, [], ◌∷◌, ◌++◌, length, take, drop, take-append-drop, Bool, true, false, ◌||◌, Some, None, refl, sym, ap, ◌∙◌, subst, arith, append-nil, ◌⊎◌, inl, inr}
+use Rattle.std.proofs.Common.{◌≡◌, ◌≢◌, ◌<◌, ◌≤◌, ◌+◌, ℕ, zero, suc, List, [], ◌∷◌, ◌++◌, length, take, drop, take-append-drop, Bool, true, false, ◌||◌, Some, None, refl, sym, ap, ◌∙◌, subst, arith, append-nil, ◌⊎◌, inl, inr}
 use Rattle.std.specs.Prelude.{Option, option_map, slice_get, map, bytes_eq}
 use Rattle.std.specs.List.{list_any}
 use Rattle.std.proofs.lemmas.List.{length-take-le}
@@ -238,21 +238,25 @@ module _ (ds : List Decl) (objects : List Payload) (are : AreObjects ds objects)
   founded (FunctionDecl t) is = tt
   founded (RawDecl b) is = tt
 
--- a declaration's name is one that stands for nothing before it
+-- a declaration's name is none of those before it
+pub other_name : (ds : List Decl) (i : ℕ) (d : Decl) → AreWellDeclared ds → slice_get ds i ≡ Some d → (k : ℕ) (e : Decl) → slice_get (take i ds) k ≡ Some e → decl_name e ≢ decl_name d
+other_name ds i d well at k e here named =
+    let there : slice_get ds k ≡ Some e = ap (λ (xs : List Decl). slice_get xs k) (sym (take-append-drop i ds)) ∙ slice_get_grown (take i ds) (drop i ds) k e here in
+    let low = slice_get_within (take i ds) k e here in
+    let low_i : i < length ds = slice_get_within ds i d at in
+    let front : length (take i ds) ≡ i = length-take-le i ds (omega (arith, low_i)) in
+    let first : slice_get (map decl_name ds) k ≡ Some (decl_name e) = slice_get-map decl_name ds k ∙ ap (option_map decl_name) there in
+    let second : slice_get (map decl_name ds) i ≡ Some (decl_name d) = slice_get-map decl_name ds i ∙ ap (option_map decl_name) at in
+    let high = slice_get_within (map decl_name ds) i (decl_name d) second in
+    well.distinct k i (decl_name d) (omega (arith, low, front)) high
+    (get_or_from_slice_get (map decl_name ds) k (decl_name e) (decl_name d) first ∙ (named ∙ sym (get_or_from_slice_get (map decl_name ds) i (decl_name d) (decl_name d) second)))
+
+-- it stands for nothing before it
 pub new_name : (ds : List Decl) (i : ℕ) (d : Decl) (objects : List Payload) → AreWellDeclared ds → slice_get ds i ≡ Some d → AreObjects (take i ds) objects → declared objects (decl_name d) ≡ None
 new_name ds i d objects well at are = not_declared (take i ds) objects are (decl_name d) unknown
   where
     unknown : IsKnown (take i ds) (decl_name d) → ⊥
-    unknown (inl (k, e, low, is, named)) =
-        let here : slice_get (take i ds) k ≡ Some e = slice_get-get_or (take i ds) k e low ∙ ap Some is in
-        let there : slice_get ds k ≡ Some e = ap (λ (xs : List Decl). slice_get xs k) (sym (take-append-drop i ds)) ∙ slice_get_grown (take i ds) (drop i ds) k e here in
-        let low_i : i < length ds = slice_get_within ds i d at in
-        let front : length (take i ds) ≡ i = length-take-le i ds (omega (arith, low_i)) in
-        let first : slice_get (map decl_name ds) k ≡ Some (decl_name e) = slice_get-map decl_name ds k ∙ ap (option_map decl_name) there in
-        let second : slice_get (map decl_name ds) i ≡ Some (decl_name d) = slice_get-map decl_name ds i ∙ ap (option_map decl_name) at in
-        let high = slice_get_within (map decl_name ds) i (decl_name d) second in
-        well.distinct k i (decl_name d) (omega (arith, low, front)) high
-        (get_or_from_slice_get (map decl_name ds) k (decl_name e) (decl_name d) first ∙ (named ∙ sym (get_or_from_slice_get (map decl_name ds) i (decl_name d) (decl_name d) second)))
+    unknown (inl (k, e, low, is, named)) = other_name ds i d well at k e (slice_get-get_or (take i ds) k e low ∙ ap Some is) named
     unknown (inr builtin) = let clash : true ≡ false = sym builtin ∙ (well.each i d at).no_class in cc clash
 
 -- ---- more objects

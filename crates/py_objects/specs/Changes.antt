@@ -64,6 +64,7 @@ edited objects x (payload.Dict ps) = payload.Dict (edited_pairs objects x ps)
 edited objects x (payload.Class c) = payload.Class c
 edited objects x (payload.Function f) = payload.Function f
 edited objects x (payload.Builtin f) = payload.Builtin f
+edited objects x (payload.Code n) = payload.Code n
 edited objects x (payload.Manager m) = payload.Manager m
 edited objects x (payload.Frame c) = payload.Frame c
 edited objects x (payload.Generator g) = payload.Generator g

@@ -72,6 +72,7 @@ EditFits x (payload.Dict ps) = FitsDict x
 EditFits x (payload.Class c) = ⊥
 EditFits x (payload.Function f) = ⊥
 EditFits x (payload.Builtin f) = ⊥
+EditFits x (payload.Code n) = ⊥
 EditFits x (payload.Manager m) = ⊥
 EditFits x (payload.Frame c) = ⊥
 EditFits x (payload.Generator g) = ⊥

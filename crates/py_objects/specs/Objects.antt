@@ -1,7 +1,6 @@
 -- What the objects of a run are: by number, by the names that they are declared under, and which are new.
 use Rattle.std.specs.Prelude.{ℕ, suc, ◌<◌, Option, Some, None, List, [], ◌∷◌, ◌++◌, Bool, false, ◌≡◌, ◌||◌, slice_get, length, eqb, bytes_eq, if◌then◌else◌}
 pub use Rattle.py_objects.specs.Refs.{Obj, Name, as_object, class_object}
-use Rattle.py_objects.specs.declared.refs.PyTypeRef.{PyTypeRef}
 use Rattle.py_objects.specs.declared.refs.PyBaseExceptionRef.{PyBaseExceptionRef}
 use Rattle.py_objects.specs.declared.payload.Payload.{Payload}
 use Rattle.py_objects.specs.declared.payload.Payload.TheVariants as payload
@@ -89,6 +88,7 @@ payload_numbers (payload.Dict ps) = pair_numbers ps
 payload_numbers (payload.Class c) = numbers c.mro
 payload_numbers (payload.Function f) = []
 payload_numbers (payload.Builtin f) = []
+payload_numbers (payload.Code n) = []
 payload_numbers (payload.Manager m) = m.enter.number ∷ m.exit.number ∷ []
 payload_numbers (payload.Frame c) = []
 payload_numbers (payload.Generator g) = []

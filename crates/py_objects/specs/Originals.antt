@@ -22,6 +22,7 @@ may_change (payload.Dict ps) = true
 may_change (payload.Class c) = false
 may_change (payload.Function f) = false
 may_change (payload.Builtin f) = false
+may_change (payload.Code n) = false
 may_change (payload.Manager m) = false
 may_change (payload.Frame c) = false
 may_change (payload.Generator g) = false

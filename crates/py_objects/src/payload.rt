@@ -26,6 +26,8 @@ pub enum Payload {
     Function(FunctionBody),
     /// A function that the machine itself carries out.
     Builtin(BuiltinFn),
+    /// A code that is a constant, by its number among the codes of the run.
+    Code(usize),
     Manager(ManagerBody),
     /// A frame, by the number of its code among the codes of the run.
     Frame(u64),
@@ -49,6 +51,7 @@ impl Payload {
             Payload::Class(class) => Payload::Class(class.copy(alloc)?),
             Payload::Function(function) => Payload::Function(function.copy(alloc)?),
             Payload::Builtin(function) => Payload::Builtin(*function),
+            Payload::Code(place) => Payload::Code(*place),
             Payload::Manager(manager) => Payload::Manager(manager.copy(alloc)?),
             Payload::Frame(code) => Payload::Frame(*code),
             Payload::Generator(coro) => Payload::Generator(coro.copy(alloc)?),

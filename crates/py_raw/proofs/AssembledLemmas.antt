@@ -31,35 +31,39 @@ use Rattle.py_raw.proofs.RunningLemmas.{raise_has_none, raw_runs, unit_runs}
 
 -- ---- its counts
 
-pub assembled_arity : (table : List (List ℕ)) (a : Annotated) (b : RawBlock) → IsAssembled table a b → a.code.code.arg_count ≡ (counts_of b).args
-assembled_arity table a b is = ap (λ (s : Sheet). s.arg_count) is.sheet
+pub assembled_arity : (table : List (List ℕ)) (earlier : List Name) (a : Annotated) (b : RawBlock) → IsAssembled table earlier a b
+    → a.code.code.arg_count ≡ (counts_of b).args
+assembled_arity table earlier a b is = ap (λ (s : Sheet). s.arg_count) is.sheet
 
-pub assembled_frees : (table : List (List ℕ)) (a : Annotated) (b : RawBlock) → IsAssembled table a b → length a.code.code.freevars.items ≡ length b.frees
-assembled_frees table a b is = ap (λ (s : Sheet). s.freevars) is.sheet
+pub assembled_frees : (table : List (List ℕ)) (earlier : List Name) (a : Annotated) (b : RawBlock) → IsAssembled table earlier a b
+    → length a.code.code.freevars.items ≡ length b.frees
+assembled_frees table earlier a b is = ap (λ (s : Sheet). s.freevars) is.sheet
 
 -- no cell takes over a parameter
-pub assembled_cells : (table : List (List ℕ)) (a : Annotated) (b : RawBlock) → IsAssembled table a b → a.code.code.cell2arg.items ≡ []
-assembled_cells table a b is = ap (λ (s : Sheet). s.cell2arg) is.sheet
+pub assembled_cells : (table : List (List ℕ)) (earlier : List Name) (a : Annotated) (b : RawBlock) → IsAssembled table earlier a b
+    → a.code.code.cell2arg.items ≡ []
+assembled_cells table earlier a b is = ap (λ (s : Sheet). s.cell2arg) is.sheet
 
 none_named : (n : ℕ) (counts : Option RawCounts) → NoneNamed counts → (counts_by n counts).named ≡ 0
 none_named n None none = refl
 none_named n (Some counts) none = none
 
 -- no parameter takes named arguments alone
-pub assembled_named_only : (table : List (List ℕ)) (a : Annotated) (b : RawBlock) → IsAssembled table a b → IsWellCoded b → a.code.code.kwonlyarg_count ≡ 0
-assembled_named_only table a b is coded = ap (λ (s : Sheet). s.kwonlyarg_count) is.sheet ∙ none_named (length b.params) b.counts coded.counts
+pub assembled_named_only : (table : List (List ℕ)) (earlier : List Name) (a : Annotated) (b : RawBlock) → IsAssembled table earlier a b
+    → IsWellCoded earlier b → a.code.code.kwonlyarg_count ≡ 0
+assembled_named_only table earlier a b is coded = ap (λ (s : Sheet). s.kwonlyarg_count) is.sheet ∙ none_named (length b.params) b.counts coded.counts
 
 -- ---- its units
 
-pub assembled_runs : (table : List (List ℕ)) (shapes : List ℕ) (a : Annotated) (b : RawBlock) → IsAssembled table a b → IsWellCoded b
-    → IsTyped shapes (sheet_of a) → AllRun (sheet_of a)
-assembled_runs table shapes a b is coded typed =
-    subst AllRun (sym is.sheet) (raw_runs shapes b is.literals is.are_literals coded (subst (IsTyped shapes) is.sheet typed))
+pub assembled_runs : (table : List (List ℕ)) (shapes : List ℕ) (earlier : List Name) (a : Annotated) (b : RawBlock) → IsAssembled table earlier a b
+    → IsWellCoded earlier b → IsTyped shapes (sheet_of a) → AllRun (sheet_of a)
+assembled_runs table shapes earlier a b is coded typed =
+    subst AllRun (sym is.sheet) (raw_runs shapes earlier b is.literals is.are_literals coded (subst (IsTyped shapes) is.sheet typed))
 
 -- no raise has a cause
-pub assembled_raises : (table : List (List ℕ)) (a : Annotated) (b : RawBlock) → IsAssembled table a b → IsWellCoded b → (at : ℕ) (u : CodeUnit)
-    → slice_get a.code.code.instructions.items at ≡ Some u → u.op ≡ Raise → raise_of u.arg ≢ Some RaiseCause
-assembled_raises table a b is coded at u there raises =
+pub assembled_raises : (table : List (List ℕ)) (earlier : List Name) (a : Annotated) (b : RawBlock) → IsAssembled table earlier a b
+    → IsWellCoded earlier b → (at : ℕ) (u : CodeUnit) → slice_get a.code.code.instructions.items at ≡ Some u → u.op ≡ Raise → raise_of u.arg ≢ Some RaiseCause
+assembled_raises table earlier a b is coded at u there raises =
     let units : a.code.code.instructions.items ≡ map unit_of b.units = ap (λ (s : Sheet). s.units) is.sheet in
     let (r, here, same) = from_map unit_of b.units at u (ap (λ (us : List CodeUnit). slice_get us at) (sym units) ∙ there) in
     raised r same (unit_runs b.units coded.run at r here)
@@ -71,8 +75,8 @@ assembled_raises table a b is coded at u there raises =
 
 -- ---- its names
 
-pub assembled_named : (table : List (List ℕ)) (a : Annotated) (b : RawBlock) → IsAssembled table a b → AreNames table a.code
-assembled_named table a b is = record {
+pub assembled_named : (table : List (List ℕ)) (earlier : List Name) (a : Annotated) (b : RawBlock) → IsAssembled table earlier a b → AreNames table a.code
+assembled_named table earlier a b is = record {
   locals = λ i id there. NamesAll-below table a.code.code.varnames.items (locals_of b) i id is.varnames there;
   globals = λ i id there. NamesAll-below table a.code.code.names.items b.names i id is.names there;
 }
@@ -90,18 +94,18 @@ first_names table (id ∷ ids) (x ∷ xs) (suc n) (((low, is), spells), rest) =
     let others = first_names table ids xs n rest in
     λ k. one k ∷ others k
 
-pub assembled_params : (table : List (List ℕ)) (a : Annotated) (b : RawBlock) → IsAssembled table a b
+pub assembled_params : (table : List (List ℕ)) (earlier : List Name) (a : Annotated) (b : RawBlock) → IsAssembled table earlier a b
     → params_of table a.code ≡ take (counts_of b).args (locals_of b)
-assembled_params table a b is =
-    ap (λ (n : ℕ). map (λ id. characters (name_in table (Some id))) (take n a.code.code.varnames.items)) (assembled_arity table a b is)
+assembled_params table earlier a b is =
+    ap (λ (n : ℕ). map (λ id. characters (name_in table (Some id))) (take n a.code.code.varnames.items)) (assembled_arity table earlier a b is)
     ∙ first_names table a.code.code.varnames.items (locals_of b) (counts_of b).args is.varnames
 
 IsNameFor-grown : (old new : List (List ℕ)) (id : NameId) (x : Name) → Continues old new → IsNameFor old id x → IsNameFor new id x
 IsNameFor-grown old new id x grows (named, spells) = (IsNameOf-grown old new id _ grows named, spells)
 
-pub assembled_continues : (table longer : List (List ℕ)) (a : Annotated) (b : RawBlock) → Continues table longer → IsAssembled table a b
-    → IsAssembled longer a b
-assembled_continues table longer a b grows is = record {
+pub assembled_continues : (table longer : List (List ℕ)) (earlier : List Name) (a : Annotated) (b : RawBlock) → Continues table longer
+    → IsAssembled table earlier a b → IsAssembled longer earlier a b
+assembled_continues table longer earlier a b grows is = record {
   literals = is.literals;
   are_literals = is.are_literals;
   sheet = is.sheet;

@@ -4,6 +4,10 @@ pub mod FlagLemmas
 mod ListLemmas
 -- names of locals
 mod LocalLemmas
+-- what is read of a constant
+mod ConstantLemmas
+-- what the rules read of constants
+mod ReadingLemmas
 -- constants and their literals
 pub mod LiteralLemmas
 -- which units run

@@ -25,6 +25,7 @@ use Rattle.py_check.specs.Typing.{IsTyped, keeps_op, keeps_after_note}
 use Rattle.py_check.specs.Running.{runs, runs_at, runs_behind, is_tested, loads_constant, asks_operator, asks_comparison, AllRun}
 use Rattle.py_rows.specs.Questions.{raise_of}
 use Rattle.py_rows.proofs.AskingLemmas.{same_raise, got_there}
+use Rattle.py_tree.specs.Tree.{Name}
 use Rattle.py_lines.specs.declared.flag.RawFlag.{RawFlag}
 use Rattle.py_lines.specs.declared.flag.RawFlag.TheVariants as flag
 use Rattle.py_lines.specs.declared.unit.RawNote.{RawNote}
@@ -121,10 +122,11 @@ none_heeded words heeded =
 
 module _
     (shapes : List ℕ)
+    (earlier : List Name)
     (b : RawBlock)
     (literals : List Literal)
-    (are : AreLiteralsOf b.consts literals)
-    (coded : IsWellCoded b)
+    (are : AreLiteralsOf earlier b.consts literals)
+    (coded : IsWellCoded earlier b)
     (typed : IsTyped shapes (raw_sheet b literals))
   where
     abbrev sheet_here : Sheet
@@ -141,7 +143,7 @@ module _
         by raw.Dead kept = refl
         by (raw.Live kinds blocks) kept =
             let may = unit_runs b.units coded.run at u there in
-            runs_kept shapes sheet_here (literals_loaded b.consts literals are) (none_heeded b.flags coded.flags) at _ _ _ u.op may (and_parts _ _ kept).1
+            runs_kept shapes sheet_here (literals_loaded earlier b.consts literals are) (none_heeded b.flags coded.flags) at _ _ _ u.op may (and_parts _ _ kept).1
 
     pub raw_runs : AllRun sheet_here
     raw_runs at low = let (u, there) = got_there b.units at (simp length-map at low) in unit_kept at u there

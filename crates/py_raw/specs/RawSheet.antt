@@ -1,11 +1,13 @@
 -- Raw codes as the typing rules read them.
-use Rattle.std.specs.Prelude.{◌≡◌, ℕ, ◌++◌, Option, Some, None, List, [], length, map, reverse}
+use Rattle.std.specs.Prelude.{◌≡◌, ℕ, ◌++◌, Option, Some, None, option_map, List, [], length, map, reverse}
 use Rattle.std.specs.List.{AllZip}
 use Rattle.py_code.specs.declared.flags.CodeFlags.{CodeFlags}
 use Rattle.py_code.specs.declared.flags.TheConstants.CodeFlags.{NEW_LOCALS, IS_GENERATOR, IS_COROUTINE, HAS_VARARGS, HAS_VARKEYWORDS, IS_OPTIMIZED}
-use Rattle.py_code.specs.declared.literal.Literal.{Literal, None as NoneLiteral, Bool as BoolLiteral, Int as IntLiteral, Str as StrLiteral}
+use Rattle.py_code.specs.declared.literal.Literal.{Literal}
 use Rattle.py_code.specs.declared.unit.CodeUnit.{CodeUnit}
 use Rattle.py_code.specs.Flags.{all_of}
+use Rattle.py_code.specs.Literals.{Constant, none, truth, number, text, tuple, code, constant_of, in_order}
+use Rattle.py_code.specs.Names.{place_of}
 use Rattle.py_tree.specs.Tree.{Name}
 use Rattle.py_check.specs.declared.note.Note.{Note}
 use Rattle.py_check.specs.declared.note.Note.TheVariants.{Dead, Live}
@@ -23,6 +25,7 @@ use Rattle.py_lines.specs.declared.unit.RawNote.TheVariants as raw
 use Rattle.py_grammar.specs.declared.raw_block.RawBlock.{RawBlock}
 use Rattle.py_grammar.specs.declared.raw_block.RawCounts.{RawCounts}
 use Rattle.py_grammar.specs.declared.raw_block.RawUnit.{RawUnit}
+use Rattle.py_raw.specs.declared.earlier.Earlier.{Earlier}
 
 -- ---- units
 
@@ -67,21 +70,25 @@ counts_of b = counts_by (length b.params) b.counts
 abbrev pub locals_of : RawBlock → List Name
 locals_of b = b.params ++ b.vars
 
--- a constant that holds no others
-abbrev pub literal_of : RawAtom → Literal
-literal_of atom.None = NoneLiteral
-literal_of (atom.Bool b) = BoolLiteral b
-literal_of (atom.Int n) = IntLiteral n
-literal_of (atom.Str s) = StrLiteral s
+-- what a constant stands for that holds no others
+abbrev pub plain_constant : RawAtom → Constant
+plain_constant atom.None = none
+plain_constant (atom.Bool b) = truth b
+plain_constant (atom.Int n) = number n
+plain_constant (atom.Str s) = text s
 
--- a literal is that of a constant: so far none is that of a code or of a tuple
-abbrev pub IsLiteralOf : RawConst → Literal → Type 0
-IsLiteralOf (constant.Atom a) literal = literal ≡ literal_of a
-IsLiteralOf (constant.Code f) literal = ⊥
-IsLiteralOf (constant.Tuple xs) literal = ⊥
+-- what a constant stands for after codes of these names: a code's number is the place of its name
+abbrev pub constant_for : List Name → RawConst → Option Constant
+constant_for earlier (constant.Atom a) = Some (plain_constant a)
+constant_for earlier (constant.Code f) = option_map code (place_of earlier f)
+constant_for earlier (constant.Tuple xs) = Some (tuple (in_order (map plain_constant xs)))
 
-abbrev pub AreLiteralsOf : List RawConst → List Literal → Type 0
-AreLiteralsOf constants literals = AllZip IsLiteralOf constants literals
+-- a literal is that of a constant
+abbrev pub IsLiteralOf : List Name → RawConst → Literal → Type 0
+IsLiteralOf earlier constant literal = constant_for earlier constant ≡ Some (constant_of literal)
+
+abbrev pub AreLiteralsOf : List Name → List RawConst → List Literal → Type 0
+AreLiteralsOf earlier constants literals = AllZip (IsLiteralOf earlier) constants literals
 
 -- ---- the rules
 
@@ -106,10 +113,12 @@ raw_sheet b literals =
       freevars = length b.frees;
     }
 
--- a raw code keeps the rules, where this is how many free names each code before it has
-abbrev pub KeepsRules : List ℕ → RawBlock → Type 0
-KeepsRules shapes b = (literals : List Literal) × AreLiteralsOf b.consts literals × IsTyped shapes (raw_sheet b literals)
+-- a raw code keeps the rules after these codes
+abbrev pub KeepsRules : Earlier → RawBlock → Type 0
+KeepsRules earlier b =
+    (literals : List Literal) × AreLiteralsOf earlier.names b.consts literals × IsTyped earlier.shapes (raw_sheet b literals)
 
 -- or this unit is the first that breaks one
-abbrev pub BreaksRule : List ℕ → RawBlock → ℕ → Type 0
-BreaksRule shapes b at = (literals : List Literal) × AreLiteralsOf b.consts literals × BreaksFirst shapes (raw_sheet b literals) at
+abbrev pub BreaksRule : Earlier → RawBlock → ℕ → Type 0
+BreaksRule earlier b at =
+    (literals : List Literal) × AreLiteralsOf earlier.names b.consts literals × BreaksFirst earlier.shapes (raw_sheet b literals) at

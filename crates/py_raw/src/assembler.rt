@@ -12,7 +12,7 @@ use crate::naming::{RawNames, names_for};
 use crate::notes::notes_of;
 use crate::units::{instructions_of, locations_of};
 use py_check::Annotated;
-use py_code::{CodeObject, Names, NoMemory, PyCode};
+use py_code::{CodeObject, NameSet, Names, NoMemory, PyCode};
 use py_grammar::{RawBlock, RawCounts};
 use std::alloc::Global;
 
@@ -31,11 +31,16 @@ fn counts_of(block: &RawBlock) -> RawCounts
     }
 }
 
-/// The code that a raw code is, with its notes: unit by unit as it was written. Its names go into the table. It fails only where
-/// memory runs out; the table may then have some of the names.
-pub fn assemble(alloc: Global, names: &mut Names, block: &RawBlock) -> Result<Annotated, NoMemory>
-    requires { IsWellCoded block.now }
-    ensures assembled { IfOk result (λ code. IsAssembled names.new code block.now) }
+/// The code that a raw code is, with its notes: unit by unit as it was written, after codes of these names. Its names go into the table.
+/// It fails only where memory runs out; the table may then have some of the names.
+pub fn assemble(
+    alloc: Global,
+    names: &mut Names,
+    earlier: &NameSet,
+    block: &RawBlock,
+) -> Result<Annotated, NoMemory>
+    requires { IsWellCoded earlier.now block.now }
+    ensures assembled { IfOk result (λ code. IsAssembled names.new earlier.now code block.now) }
     ensures grows { Continues names.old names.new }
 {
     let ids = names_for(alloc, names, block)?;
@@ -62,7 +67,7 @@ pub fn assemble(alloc: Global, names: &mut Names, block: &RawBlock) -> Result<An
         max_stackdepth: block.depth,
         obj_name,
         cell2arg: Vec::new(alloc),
-        constants: literals_of(alloc, block.consts.as_slice())?,
+        constants: literals_of(alloc, earlier, block.consts.as_slice())?,
         names: global_names,
         varnames,
         cellvars,

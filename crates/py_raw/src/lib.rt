@@ -3,6 +3,7 @@
 
 mod assembler;
 mod constants;
+mod earlier;
 mod flags;
 mod laws;
 mod naming;
@@ -10,6 +11,7 @@ mod notes;
 mod units;
 
 pub use assembler::assemble;
+pub use earlier::Earlier;
 pub use laws::laws_of_raw_codes;
 pub use py_check::Annotated;
 pub use py_grammar::RawBlock;

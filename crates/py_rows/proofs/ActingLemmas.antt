@@ -8,7 +8,7 @@ use Rattle.std.proofs.lemmas.List.{length-take-le, length-reverse}
 use Rattle.py_code.specs.declared.unit.CodeUnit.{CodeUnit}
 use Rattle.py_code.specs.declared.instruction.Instruction.{Instruction}
 use Rattle.py_code.specs.declared.instruction.Instruction.TheVariants.{LoadConst, LoadFast, StoreFast, DeleteFast, CallFunctionPositional, Jump, JumpIfTrue, JumpIfFalse, SetupLoop, SetupExcept, SetupFinally, EnterFinally, EndFinally, SetupWith, WithCleanupStart, WithCleanupFinish, PopBlock, PopException, Raise, Break, Continue, ReturnValue, ReturnConst, YieldValue, ExtendedArg}
-use Rattle.py_code.specs.declared.literal.Literal.{Literal, None as NoneLiteral, Bool as BoolLiteral, Int as IntLiteral, Str as StrLiteral, Tuple' as TupleLiteral, Code as CodeLiteral, Builtin as BuiltinLiteral}
+use Rattle.py_code.specs.declared.literal.Literal.{Literal}
 use Rattle.py_code.specs.declared.operator.RaiseKind.{RaiseKind}
 use Rattle.py_code.specs.declared.operator.RaiseKind.TheVariants as raise
 use Rattle.py_code.specs.Literals.{literals_of}
@@ -16,10 +16,9 @@ use Rattle.py_code.specs.Operators.{raise_kinds}
 use Rattle.py_code.specs.Units.{with_byte, is_prefix}
 use Rattle.py_objects.specs.declared.refs.PyBaseExceptionRef.{PyBaseExceptionRef}
 use Rattle.py_objects.specs.declared.payload.Payload.{Payload}
-use Rattle.py_objects.specs.declared.payload.Payload.TheVariants as payload
 use Rattle.py_objects.specs.declared.request.Request.{Request}
 use Rattle.py_objects.specs.declared.request.Request.TheVariants as request
-use Rattle.py_objects.specs.Objects.{Obj, Name, HasPayload, as_object}
+use Rattle.py_objects.specs.Objects.{Obj, Name, as_object}
 use Rattle.py_objects.specs.Callees.{call_request}
 use Rattle.py_check.specs.declared.note.Kind.{Kind}
 use Rattle.py_check.specs.declared.note.Kind.TheVariants as kind
@@ -28,12 +27,12 @@ use Rattle.py_check.specs.declared.note.BlockNote.{BlockNote}
 use Rattle.py_check.specs.declared.note.BlockNote.TheVariants as note
 use Rattle.py_check.specs.declared.annotated.Annotated.{Annotated}
 use Rattle.py_check.specs.Constants.{kind_of}
-use Rattle.py_check.specs.Running.{is_loaded, loads_constant, runs}
+use Rattle.py_check.specs.Running.{loads_constant, runs}
 use Rattle.py_check.specs.Notes.{kind_fits, block_number, level_of, pending_of}
 use Rattle.py_check.specs.Operands.{carried, is_label, prefixes}
 use Rattle.py_check.specs.Effects.{Effect, Moves, AsksOnce, Takes, Other, effect, has_operand}
 use Rattle.py_rows.specs.Table.{row_effect}
-use Rattle.py_rows.specs.Rows.{is_there, reaches, payload_of, or_stuck, loads, asks, asks_if, takes_off, where_there, acts_by, load_fast, delete_fast, if_popped, pop_block, pop_type, pop_exception, finally_type, in_finally, goes_on as goes_on_with, end_finally, raised_by, raised_of, raised_in, asks_exit, finishes, finish_cleanup, raises, calls, call_function, act_own, act}
+use Rattle.py_rows.specs.Rows.{is_there, reaches, loads, asks, asks_if, takes_off, where_there, acts_by, load_fast, delete_fast, if_popped, pop_block, pop_type, pop_exception, finally_type, in_finally, goes_on as goes_on_with, end_finally, raised_by, raised_of, raised_in, asks_exit, finishes, finish_cleanup, raises, calls, call_function, act_own, act}
 use Rattle.py_check.specs.Sheet.{Sheet, sheet_of}
 use Rattle.py_check.specs.Landing.{top_level, has_room, lands, goes_on, handlers_land}
 use Rattle.py_code.specs.Bottom.{bottom}
@@ -61,6 +60,7 @@ use Rattle.py_rows.specs.Questions.{raise_of, may_raise, may_ask, UnitAsks, Unit
 use Rattle.py_rows.specs.Fitting.{HaveKinds, MayWait, TypeWaits, type_number, IsBlock, AreBlocks, Has, wanted_of, raise_left, left_own, left_by, left_of, FitsBut}
 use Rattle.py_rows.specs.Sound.{IsSound}
 use Rattle.py_rows.specs.Laws.{RaisedThere, Always}
+use Rattle.py_rows.proofs.ConstantLemmas.{constant_kind}
 use Rattle.py_rows.proofs.KindLemmas.{kinds_counted, kinds_dropped, kinds_under, kinds_joined, kinds_moved}
 use Rattle.py_rows.proofs.BlockLemmas.{waiting_admitted}
 use Rattle.py_rows.proofs.TypingLemmas.{prefix_carried}
@@ -70,16 +70,6 @@ use Rattle.py_rows.proofs.UnwindingLemmas.{leaves, leaves_with}
 use Rattle.py_rows.proofs.TakingLemmas.{bottom-cons, bottom-drop, handlers_same, raises_by, raised_as, reached, places_there, takes_rest, takes_any, has_under, off, EndsExit, ends_exit}
 use Rattle.py_rows.proofs.RunningLemmas.{is_taken, none_taken, row_is}
 use Rattle.py_rows.proofs.AskingLemmas.{unit_asks, raise_is, got_there, Wants, AsksAs, named, asked_there, call_asked}
-
--- a loaded constant has a payload, and an object of it is of the constant's kind
-literal_kind : (objects : List Payload) (l : Literal) → is_loaded l ≡ true → (p : Payload) × (payload_of l ≡ Some p) × ((v : Obj) → HasPayload objects v p → HasKind objects v (kind_of l))
-literal_kind objects NoneLiteral loaded = (payload.None, refl, λ v has. tt)
-literal_kind objects (BoolLiteral b) loaded = (payload.Bool b, refl, λ v has. tt)
-literal_kind objects (IntLiteral n) loaded = (payload.Int n, refl, λ v has. tt)
-literal_kind objects (StrLiteral s) loaded = (payload.Str s, refl, λ v has. (s, has))
-literal_kind objects (TupleLiteral shape items) loaded = cc
-literal_kind objects (CodeLiteral c) loaded = cc
-literal_kind objects (BuiltinLiteral f) loaded = (payload.Builtin f, refl, λ v has. tt)
 
 pub where_true : (P : Step → Type 0) (b : Bool) (step : Step) → b ≡ true → P step → P (where_there b step)
 where_true P true step is led = led
@@ -198,10 +188,7 @@ module _ (objects : List Payload) (names : List (List ℕ)) (globals : Obj) (clo
   loads_fit : (literal : Option Literal) (rest : Kind → Bool) (f : Obj → Step) → loads_constant literal ≡ true → constants.loads literal rest ≡ true → ((k : Kind) (v : Obj) → rest k ≡ true → HasKind objects v k → Led (f v))
       → Always objects (StepFits objects code) (loads literal f)
   loads_fit None rest f run keeps fits = cc
-  loads_fit (Some l) rest f run keeps fits =
-      let (p, is, kind) = literal_kind objects l run in
-      let move : Always objects (StepFits objects code) (or_stuck (Some p) f) = λ v has. fits (kind_of l) v keeps (kind v has) in
-      subst (λ (q : Option Payload). Always objects (StepFits objects code) (or_stuck q f)) (sym is) move
+  loads_fit (Some l) rest f run keeps fits = λ v has. fits (kind_of l) v keeps (constant_kind objects v l has)
 
   -- a constant that is loaded is there
   loaded_there : (literal : Option Literal) → loads_constant literal ≡ true → constants.loads literal (λ k. true) ≡ true

@@ -18,6 +18,7 @@ use Rattle.py_rows.specs.Fitting.{FitsAt}
 use Rattle.py_rows.specs.Sound.{IsSound}
 use Rattle.py_rows.specs.Laws.{LeadsTo, AlwaysLeads, IsMoving, setting_of}
 use Rattle.py_rows.proofs.AskingLemmas.{got_there}
+use Rattle.py_rows.proofs.ConstantLemmas.{constant_made}
 use Rattle.py_rows.proofs.LandingLemmas.{Fits}
 use Rattle.py_rows.proofs.StepLemmas.{next_fits}
 use Rattle.py_rows.proofs.GrowingLemmas.{fits_grown}
@@ -45,10 +46,9 @@ module _ (objects : List Payload) (P : List Payload → State → Type 0) where
 
   found : (m : Move) → ((objects' : List Payload) → Grows objects objects' → AlwaysLeads objects' (P objects') m) → Found m
   found (Plainly step) leads = (objects, same, (step, refl, leads objects same))
-  found (Loads p f) leads =
-      let v : Obj = record { number = length objects } in
-      let grows : Grows objects (objects ++ p ∷ []) = (p ∷ [], refl) in
-      (objects ++ p ∷ [], grows, (f v, (v, slice_get-append_last objects p, refl), leads (objects ++ p ∷ []) grows v (slice_get-append_last objects p)))
+  found (Loads c f) leads =
+      let (objects', grows, (v, has)) = constant_made objects c in
+      (objects', grows, (f v, (v, has, refl), leads objects' grows v has))
   found (Decides v f) leads =
       let ((b, has), all) = leads objects same in
       (objects, same, (f b, (b, has, refl), all b))

@@ -28,6 +28,7 @@ use Rattle.py_rows.specs.Receiving.{moves}
 use Rattle.py_rows.specs.RunOfRows.{IsExit, MayLead, Hears, Steps, silent, telling, hearing, Runs, none, on}
 use Rattle.py_rows.specs.Fitting.{HaveKinds, WaitsIn, MayWait, TypeWaits, AreBlocks, Has, FitsNote, FitsBut, FitsAt}
 use Rattle.py_objects.proofs.GrowthLemmas.{payload_grown}
+use Rattle.py_rows.proofs.ConstantLemmas.{constant_grown}
 
 -- an object stays of a kind as objects grow
 pub kind_grown : (objects objects' : List Payload) (v : Obj) (k : Kind) → Grows objects objects' → HasKind objects v k → HasKind objects' v k
@@ -42,7 +43,7 @@ kind_grown objects objects' v kind.Cell grows is = is
 kind_grown objects objects' v (kind.Cells n) grows is = is
 kind_grown objects objects' v (kind.Names n) grows (vs, has, count, texts) =
     (vs, payload_grown objects objects' v _ grows has, count, λ i w here. let (s, text) = texts i w here in (s, payload_grown objects objects' w _ grows text))
-kind_grown objects objects' v (kind.Code c) grows is = is
+kind_grown objects objects' v (kind.Code c) grows has = payload_grown objects objects' v _ grows has
 
 pub kinds_grown : (objects objects' : List Payload) (vs : List Obj) (ks : List Kind) → Grows objects objects' → HaveKinds objects vs ks → HaveKinds objects' vs ks
 kinds_grown objects objects' [] [] grows are = tt
@@ -123,7 +124,7 @@ number_grown objects objects' i (more, is) below = omega (arith, below, ap lengt
 -- a step stays one as objects grow
 lead_grown : (objects objects' : List Payload) → Grows objects objects' → (m : Move) (step : Step) → MayLead objects m step → MayLead objects' m step
 lead_grown objects objects' grows (Plainly done) step may = may
-lead_grown objects objects' grows (Loads p f) step (v, has, is) = (v, payload_grown objects objects' v p grows has, is)
+lead_grown objects objects' grows (Loads c f) step (v, has, is) = (v, constant_grown objects objects' v c grows has, is)
 lead_grown objects objects' grows (Decides v f) step (b, has, is) = (b, payload_grown objects objects' v _ grows has, is)
 lead_grown objects objects' grows (Manages m f) step (b, (p, has, manages), is) = (b, (p, payload_grown objects objects' m p grows has, manages), is)
 lead_grown objects objects' grows (Resolves v f) step (p, has, is) = (p, payload_grown objects objects' v p grows has, is)

@@ -1,45 +1,18 @@
 -- What objects of a kind are besides, and among more objects.
-use Rattle.std.proofs.Common.{◌≡◌, ℕ, List, [], ◌∷◌, Some, true, ◌||◌, refl, sym, ap, subst, ◌∙◌, length, suc, ⊎_elim, arith}
+use Rattle.std.proofs.Common.{◌≡◌, ℕ, List, [], ◌∷◌, true, ◌||◌, refl, ap, subst, length, suc, ⊎_elim, arith}
 use Rattle.std.specs.List.{list_all}
 use Rattle.std.specs.Prelude.{nat_lt, replicate, slice_get, drop, zero, ◌++◌, ◌-◌}
 use Rattle.std.proofs.lemmas.Bool.{and_parts, or_cases, ltb-true, lt-ltb}
-use Rattle.std.proofs.lemmas.Bool.Decides.{Decides-eqb}
 use Rattle.py_objects.specs.declared.payload.Payload.{Payload}
 use Rattle.py_objects.specs.Objects.{Obj}
 use Rattle.py_check.specs.declared.note.Kind.{Kind}
 use Rattle.py_check.specs.declared.note.Kind.TheVariants as kind
-use Rattle.py_check.specs.Notes.{kind_number, kind_size, same_kind, plain_kind, kind_fits, kinds_fit}
+use Rattle.py_check.specs.Notes.{same_kind, plain_kind, kind_fits, kinds_fit}
+use Rattle.py_check.proofs.NoteLemmas.{same_kinds}
 use Rattle.py_code.specs.Bottom.{bottom}
 use Rattle.py_check.specs.Taking.{at_place, picked, moved_kinds}
 use Rattle.py_rows.specs.Answers.{HasKind}
 use Rattle.py_rows.specs.Fitting.{HaveKinds}
-
--- the kinds of a size, each at its number
-abbrev kinds_at : ℕ → List Kind
-kinds_at n = kind.Any ∷ kind.Str ∷ kind.Tuple ∷ kind.List ∷ kind.Set ∷ kind.Dict ∷ kind.Exc ∷ kind.Cell ∷ kind.Cells n ∷ kind.Names n ∷ kind.Code n ∷ []
-
-kind_found : (k : Kind) → slice_get (kinds_at (kind_size k)) (kind_number k) ≡ Some k
-kind_found kind.Any = refl
-kind_found kind.Str = refl
-kind_found kind.Tuple = refl
-kind_found kind.List = refl
-kind_found kind.Set = refl
-kind_found kind.Dict = refl
-kind_found kind.Exc = refl
-kind_found kind.Cell = refl
-kind_found (kind.Cells n) = refl
-kind_found (kind.Names n) = refl
-kind_found (kind.Code c) = refl
-
--- kinds that pass for the same are the same
-same_kinds : (k l : Kind) → same_kind k l ≡ true → k ≡ l
-same_kinds k l same =
-    let parts = and_parts _ _ same in
-    let number : kind_number k ≡ kind_number l = (Decides-eqb (kind_number k) (kind_number l)).0 parts.0 in
-    let size : kind_size k ≡ kind_size l = (Decides-eqb (kind_size k) (kind_size l)).0 parts.1 in
-    let found : Some k ≡ Some l =
-    sym (kind_found k) ∙ ap (λ n. slice_get (kinds_at n) (kind_number k)) size ∙ ap (slice_get (kinds_at (kind_size l))) number ∙ kind_found l in
-    cc
 
 -- what an object plainly is
 plainly_is : (objects : List Payload) (v : Obj) (k : Kind) → HasKind objects v k → HasKind objects v (plain_kind k)

@@ -1,3 +1,5 @@
+-- objects of constants
+pub mod ConstantLemmas
 -- kinds of objects
 pub mod KindLemmas
 -- blocks

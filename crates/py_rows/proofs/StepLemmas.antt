@@ -123,7 +123,7 @@ module _ (objects : List Payload) (names : List (List ℕ)) (globals : Obj) (clo
 
       leads : (m : Move) → Always objects (StepFits objects code) m → AlwaysLeads objects (Fits objects code) m
       leads (Plainly step) all = step_leads step all
-      leads (Loads p f) all = λ v has. step_leads (f v) (all v has)
+      leads (Loads c f) all = λ v has. step_leads (f v) (all v has)
       leads (Decides v f) all = (all.0, λ b. step_leads (f b) (all.1 b))
       leads (Manages m f) all = λ b. step_leads (f b) (all b)
       leads (Resolves v f) all = λ p. step_leads (f p) (all p)
@@ -132,7 +132,7 @@ module _ (objects : List Payload) (names : List (List ℕ)) (globals : Obj) (clo
   -- a step that a move may lead to
   led : (m : Move) (step : Step) → Always objects (StepFits objects code) m → MayLead objects m step → StepFits objects code step
   led (Plainly done) step all may = subst (StepFits objects code) may all
-  led (Loads p f) step all (v, has, is) = subst (StepFits objects code) is (all v has)
+  led (Loads c f) step all (v, has, is) = subst (StepFits objects code) is (all v has)
   led (Decides v f) step all (b, has, is) = subst (StepFits objects code) is (all.1 b)
   led (Manages m f) step all (b, manages, is) = subst (StepFits objects code) is (all b)
   led (Resolves v f) step all (p, has, is) = subst (StepFits objects code) is (all p)

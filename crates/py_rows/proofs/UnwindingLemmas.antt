@@ -29,7 +29,8 @@ use Rattle.py_rows.specs.Handled.{entered_by}
 use Rattle.py_rows.specs.Unwinding.{left, left_handler, meets, unwind, unwinds}
 use Rattle.py_rows.specs.Fitting.{HaveKinds, Admits, IsBlock, AreBlocks, Has}
 use Rattle.py_rows.proofs.KindLemmas.{kinds_fitted, kinds_counted, kinds_under}
-use Rattle.py_rows.proofs.BlockLemmas.{Common, common, blocks_fitted}
+use Rattle.py_check.proofs.NoteLemmas.{Common, common}
+use Rattle.py_rows.proofs.BlockLemmas.{blocks_fitted}
 use Rattle.py_rows.proofs.LandingLemmas.{StepFits, Arrives, jumped, may_jumped}
 
 -- a reason that blocks may be left for

@@ -38,11 +38,12 @@ use Rattle.py_rows.specs.Handled.{entered_by, handled_by, handled_in}
 use Rattle.py_rows.specs.Slot.{AllKeep, Keeps}
 use Rattle.py_rows.specs.Unwinding.{left, left_handler, meets, unwind, unwinds}
 use Rattle.py_rows.specs.Asked.{asked}
-use Rattle.py_rows.specs.Rows.{asks, opens, is_there, reaches, loads, or_stuck, payload_of, asks_if, takes_off, where_there, acts_by, load_fast, delete_fast, if_popped, pop_block, pop_type, pop_exception, finally_type, in_finally, goes_on, finishes, raises, calls, act_own, unit_move}
+use Rattle.py_rows.specs.Rows.{asks, opens, is_there, reaches, loads, asks_if, takes_off, where_there, acts_by, load_fast, delete_fast, if_popped, pop_block, pop_type, pop_exception, finally_type, in_finally, goes_on, finishes, raises, calls, act_own, unit_move}
 use Rattle.py_rows.specs.Receiving.{entered, asks_again, enters_top, enters, jumps_if, passes_if, causes, raised, answered_by, answered_own, unit_answered, moves}
 use Rattle.py_rows.specs.RunOfRows.{IsExit, MayLead}
 use Rattle.py_rows.specs.Standing.{IsPlaced, IsOf}
 use Rattle.py_rows.specs.Below.{told_numbers, ReasonBelow, IfBelow, TypeBelow, BlocksBelow, ExpectBelow}
+use Rattle.py_rows.proofs.ConstantLemmas.{constant_there}
 use Rattle.py_rows.proofs.BelowLemmas.{joined_below, reverse_below, drop_below, take_below, values_below, picked_below}
 use Rattle.py_rows.proofs.AskingLemmas.{call_below}
 use Rattle.py_rows.proofs.HandledBelowLemmas.{set_there, handled_below, entered_below, raised_below, RequestBelow, mapped_unbound, AsksBelow, asked_below}
@@ -95,7 +96,7 @@ module _ (first : Option PyBaseExceptionRef) (n : ℕ) (Kept Low : Type 0) where
     -- whatever a move leads to
     abbrev pub AllLed : Move → Type 0
     AllLed (Plainly step) = Led step
-    AllLed (Loads p f) = (v : Obj) → (Low → v.number < n) → Led (f v)
+    AllLed (Loads c f) = (v : Obj) → (Low → v.number < n) → Led (f v)
     AllLed (Decides v f) = (b : Bool) → Led (f b)
     AllLed (Manages m f) = (b : Bool) → Led (f b)
     AllLed (Resolves v f) = (p : Payload) → Led (f p)
@@ -192,11 +193,7 @@ module _ (first : Option PyBaseExceptionRef) (n : ℕ) (Kept Low : Type 0) where
 
     loads_led : (l : Option Literal) (f : Obj → Step) → ((v : Obj) → (Low → v.number < n) → Led (f v)) → AllLed (loads l f)
     loads_led None f led = tt
-    loads_led (Some l) f led = by_payload (payload_of l)
-      where
-        by_payload : (p : Option Payload) → AllLed (or_stuck p f)
-        by_payload None = tt
-        by_payload (Some p) = led
+    loads_led (Some l) f led = led
 
     load_fast_led : {s : State} (name : Option Name) (local : Option (Option Obj)) → (Low → (v : Obj) → local ≡ Some (Some v) → v.number < n) → Stands s → Led (load_fast name local s)
     load_fast_led name None low k = tt
@@ -405,7 +402,7 @@ module _ (first : Option PyBaseExceptionRef) (Kept Low : Type 0) (objects : List
   -- a step that a move may lead to
   may_led : (x : Expect) (m : Move) (step : Step) → LedBy x m → MayLead objects m step → Led first (length objects) Kept Low s.at (begun_by x s) step
   may_led x (Plainly done) step all may = subst (Led first (length objects) Kept Low s.at (begun_by x s)) may all
-  may_led x (Loads p f) step all (v, has, is) = subst (Led first (length objects) Kept Low s.at (begun_by x s)) is (all v (λ m. slice_get_within objects v.number p has))
+  may_led x (Loads c f) step all (v, has, is) = subst (Led first (length objects) Kept Low s.at (begun_by x s)) is (all v (λ m. constant_there objects v c has))
   may_led x (Decides v f) step all (b, has, is) = subst (Led first (length objects) Kept Low s.at (begun_by x s)) is (all b)
   may_led x (Manages o f) step all (b, manages, is) = subst (Led first (length objects) Kept Low s.at (begun_by x s)) is (all b)
   may_led x (Resolves v f) step all (p, has, is) = subst (Led first (length objects) Kept Low s.at (begun_by x s)) is (all p)

@@ -15,7 +15,7 @@ use Rattle.py_check.specs.declared.note.Kind.TheVariants as kind
 use Rattle.py_rows.specs.declared.expect.Wanted.{Wanted}
 use Rattle.py_rows.specs.declared.expect.Wanted.TheVariants as want
 
--- an object is of a kind; no object is a list, a set, a cell or a code yet
+-- an object is of a kind; no object is a list, a set or a cell yet
 abbrev pub HasKind : List Payload → Obj → Kind → Type 0
 HasKind objects v kind.Any = Unit {0}
 HasKind objects v kind.Str = (s : Name) × HasPayload objects v (payload.Str s)
@@ -28,7 +28,7 @@ HasKind objects v kind.Cell = ⊥
 HasKind objects v (kind.Cells n) = ⊥
 HasKind objects v (kind.Names n) =
     (vs : List Obj) × HasPayload objects v (payload.Tuple vs) × (length vs ≡ n) × ((i : ℕ) (w : Obj) → slice_get vs i ≡ Some w → (s : Name) × HasPayload objects w (payload.Str s))
-HasKind objects v (kind.Code c) = ⊥
+HasKind objects v (kind.Code c) = HasPayload objects v (payload.Code c)
 
 -- what is built of items
 abbrev pub built : BuildKind → Kind

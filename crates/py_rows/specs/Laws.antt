@@ -15,6 +15,7 @@ use Rattle.py_rows.specs.declared.expect.Expect.TheVariants as expect
 use Rattle.py_rows.specs.States.{Setting, State, Step, Goes, Tells, Stuck, Move, Plainly, Loads, Decides, Manages, Resolves, Exits}
 use Rattle.py_rows.specs.Slot.{KeepsSlot}
 use Rattle.py_check.specs.declared.note.Kind.TheVariants as kind
+use Rattle.py_rows.specs.Constants.{HasConstant}
 use Rattle.py_rows.specs.Answers.{HasKind}
 use Rattle.py_rows.specs.Receiving.{moves}
 use Rattle.py_check.specs.Running.{is_generator}
@@ -40,7 +41,7 @@ RaisedThere objects (Some e) = HasKind objects (as_object e) kind.Exc
 -- has; what it decides by is a truth value
 abbrev pub Always : List Payload → (Step → Type 0) → Move → Type 0
 Always objects P (Plainly step) = P step
-Always objects P (Loads p f) = (v : Obj) → HasPayload objects v p → P (f v)
+Always objects P (Loads c f) = (v : Obj) → HasConstant objects v c → P (f v)
 Always objects P (Decides v f) = ((b : Bool) × HasPayload objects v (payload.Bool b)) × ((b : Bool) → P (f b))
 Always objects P (Manages m f) = (b : Bool) → P (f b)
 Always objects P (Resolves v f) = (p : Payload) → P (f p)

@@ -5,6 +5,8 @@ pub mod Handled
 pub mod Slot
 -- what leaving blocks does
 pub mod Unwinding
+-- which objects are those of constants
+pub mod Constants
 -- which answers requests want
 pub mod Answers
 pub mod Suits

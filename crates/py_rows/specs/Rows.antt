@@ -4,16 +4,14 @@ use Rattle.std.specs.List.{list_all}
 use Rattle.py_code.specs.declared.instruction.Instruction.{Instruction}
 use Rattle.py_code.specs.declared.instruction.Instruction.TheVariants.{LoadConst, LoadFast, StoreFast, DeleteFast, CallFunctionPositional, Jump, JumpIfTrue, JumpIfFalse, SetupLoop, SetupExcept, SetupFinally, EnterFinally, EndFinally, SetupWith, WithCleanupStart, WithCleanupFinish, PopBlock, PopException, Raise, Break, Continue, ReturnValue, ReturnConst, YieldValue, ExtendedArg}
 use Rattle.py_code.specs.declared.unit.CodeUnit.{CodeUnit}
-use Rattle.py_code.specs.declared.literal.Literal.{Literal, None as NoneLiteral, Bool as BoolLiteral, Int as IntLiteral, Str as StrLiteral, Builtin as BuiltinLiteral}
+use Rattle.py_code.specs.declared.literal.Literal.{Literal}
 use Rattle.py_code.specs.declared.operator.RaiseKind.{RaiseKind}
 use Rattle.py_code.specs.declared.operator.RaiseKind.TheVariants as raise
-use Rattle.py_code.specs.Literals.{literals_of}
+use Rattle.py_code.specs.Literals.{constant_of, literals_of}
 use Rattle.py_code.specs.Operators.{raise_kinds}
 use Rattle.py_code.specs.Bottom.{bottom}
 use Rattle.py_code.specs.Units.{with_byte}
 use Rattle.py_objects.specs.declared.refs.PyBaseExceptionRef.{PyBaseExceptionRef}
-use Rattle.py_objects.specs.declared.payload.Payload.{Payload}
-use Rattle.py_objects.specs.declared.payload.Payload.TheVariants as payload
 use Rattle.py_objects.specs.declared.request.Request.{Request}
 use Rattle.py_objects.specs.declared.request.Request.TheVariants as request
 use Rattle.py_objects.specs.Objects.{Obj, Name, as_object}
@@ -34,24 +32,10 @@ use Rattle.py_rows.specs.Unwinding.{left, left_handler, unwinds}
 use Rattle.py_rows.specs.Answers.{wanted}
 use Rattle.py_rows.specs.Asked.{name_of_local, asked}
 
--- the payload of a constant, where constants of that kind are loaded so far
-abbrev pub payload_of : Literal → Option Payload
-payload_of NoneLiteral = Some payload.None
-payload_of (BoolLiteral b) = Some (payload.Bool b)
-payload_of (IntLiteral n) = Some (payload.Int n)
-payload_of (StrLiteral s) = Some (payload.Str s)
-payload_of (BuiltinLiteral f) = Some (payload.Builtin f)
-payload_of _ = None
-
--- a constant that is loaded, where it has a payload
-abbrev pub or_stuck : Option Payload → (Obj → Step) → Move
-or_stuck None f = Plainly Stuck
-or_stuck (Some p) f = Loads p f
-
--- the same of a constant's place
+-- a constant is loaded, where there is one
 abbrev pub loads : Option Literal → (Obj → Step) → Move
 loads None f = Plainly Stuck
-loads (Some l) f = or_stuck (payload_of l) f
+loads (Some l) f = Loads (constant_of l) f
 
 -- a question by the unit that runs
 abbrev pub asks : Request → State → Step

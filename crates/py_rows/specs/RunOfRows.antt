@@ -17,6 +17,7 @@ use Rattle.py_check.specs.declared.note.Kind.TheVariants as kind
 use Rattle.py_rows.specs.declared.expect.Expect.{Expect}
 use Rattle.py_rows.specs.declared.expect.Expect.TheVariants as expect
 use Rattle.py_rows.specs.States.{Setting, State, Step, Goes, Tells, Move, Plainly, Loads, Decides, Manages, Resolves, Exits, waiting}
+use Rattle.py_rows.specs.Constants.{HasConstant}
 use Rattle.py_rows.specs.Answers.{HasKind, IsAnswer}
 use Rattle.py_rows.specs.Receiving.{moves}
 
@@ -29,7 +30,7 @@ IsExit objects (Some e) t v b = (v ≡ as_object e) × ((body : ExceptionBody) �
 -- a move may lead to a step
 abbrev pub MayLead : List Payload → Move → Step → Type 0
 MayLead objects (Plainly step) done = step ≡ done
-MayLead objects (Loads p f) done = (v : Obj) × HasPayload objects v p × (f v ≡ done)
+MayLead objects (Loads c f) done = (v : Obj) × HasConstant objects v c × (f v ≡ done)
 MayLead objects (Decides v f) done = (b : Bool) × HasPayload objects v (payload.Bool b) × (f b ≡ done)
 MayLead objects (Manages m f) done = (b : Bool) × ((p : Payload) × HasPayload objects m p × (is_manager p ≡ b)) × (f b ≡ done)
 MayLead objects (Resolves v f) done = (p : Payload) × HasPayload objects v p × (f p ≡ done)

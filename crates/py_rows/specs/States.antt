@@ -1,6 +1,7 @@
 -- States of frames, and what a step leads to.
 use Rattle.std.specs.Prelude.{ℕ, suc, Bool, Option, List, ◌∷◌, ◌≡◌, length, if◌then◌else◌, nat_lt}
 use Rattle.py_code.specs.declared.code.PyCode.{PyCode}
+use Rattle.py_code.specs.Literals.{Constant}
 use Rattle.py_objects.specs.declared.refs.PyBaseExceptionRef.{PyBaseExceptionRef}
 use Rattle.py_objects.specs.declared.payload.Payload.{Payload}
 use Rattle.py_objects.specs.Objects.{Obj}
@@ -38,11 +39,11 @@ pub data Step : Type 0 where
   Tells : Own → State → Step
   Stuck : Step
 
--- a step, which may need an object of a payload, go by which truth value an object is, by whether it is a manager or by its payload, or
+-- a step, which may need an object of a constant, go by which truth value an object is, by whether it is a manager or by its payload, or
 -- need an exception's class and traceback
 pub data Move : Type 0 where
   Plainly : Step → Move
-  Loads : Payload → (Obj → Step) → Move
+  Loads : Constant → (Obj → Step) → Move
   Decides : Obj → (Bool → Step) → Move
   Manages : Obj → (Bool → Step) → Move
   Resolves : Obj → (Payload → Step) → Move

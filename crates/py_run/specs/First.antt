@@ -14,8 +14,8 @@ first_objects = singletons ++ (class_payloads first_classes ++ payload.Dict [] �
 abbrev pub first_globals : Obj
 first_globals = record { number = 70 }
 
--- an entry that a host may add: the code that it names is there; functions of the machine's own come of constants alone, and frames and
--- generators of runs
+-- an entry that a host may add: the code that it names is there; functions of the machine's own and codes come of constants alone, and frames
+-- and generators of runs
 abbrev pub IsAddable : ℕ → Payload → Type 0
 IsAddable codes payload.None = Unit {0}
 IsAddable codes (payload.Bool b) = Unit {0}
@@ -26,6 +26,7 @@ IsAddable codes (payload.Dict ps) = Unit {0}
 IsAddable codes (payload.Class c) = Unit {0}
 IsAddable codes (payload.Function b) = b.code < codes
 IsAddable codes (payload.Builtin f) = ⊥
+IsAddable codes (payload.Code n) = ⊥
 IsAddable codes (payload.Manager b) = Unit {0}
 IsAddable codes (payload.Frame n) = ⊥
 IsAddable codes (payload.Generator b) = ⊥

@@ -28,7 +28,7 @@ module _ (ds : List Declaration) (i : ℕ) (d : Declaration) (low : i < length d
   abbrev front : List Decl
   front = map decl_of (take i ds)
 
-  there : slice_get (map decl_of ds) i ≡ Some (decl_of d)
+  pub there : slice_get (map decl_of ds) i ≡ Some (decl_of d)
   there = entry_mapped decl_of ds i d (entry_read ds i d low is)
 
   -- the codes up to it
@@ -53,7 +53,7 @@ module _ (ds : List Declaration) (i : ℕ) (d : Declaration) (low : i < length d
 
   module _ (well : AreWellDeclared (map decl_of ds)) where
     -- those in front of it are the first of all
-    front_is : take i (map decl_of ds) ≡ front
+    pub front_is : take i (map decl_of ds) ≡ front
     front_is =
         let whole : map decl_of ds ≡ front ++ map decl_of (drop i ds) = ap (map decl_of) (sym (take-append-drop i ds)) ∙ map-append decl_of (take i ds) (drop i ds) in
         let size : length front ≡ i = length-map (take i ds) decl_of ∙ length-take-le i ds (omega (arith, low)) in

@@ -1,5 +1,5 @@
 -- The codes that a script declares, one behind the other.
-use Rattle.std.proofs.Common.{◌≡◌, ◌<◌, ◌≤◌, ◌+◌, ℕ, zero, suc, List, [], ◌∷◌, ◌++◌, length, Some, refl, sym, ap, ◌∙◌, subst, arith, length-append, append-nil, append_assoc, ◌⊎◌, inl, inr, get_or, take}
+use Rattle.std.proofs.Common.{◌≡◌, ◌<◌, ◌≤◌, ◌+◌, ℕ, zero, suc, List, [], ◌∷◌, ◌++◌, length, Some, refl, sym, ap, ap₂, ◌∙◌, subst, arith, length-append, append-nil, append_assoc, ◌⊎◌, inl, inr, get_or, take}
 use Rattle.std.specs.Prelude.{Option, option_map, chars, slice_get, map}
 use Rattle.std.specs.List.{list_all}
 use Rattle.std.proofs.lemmas.List.{map-append, length-map, length-take-le, take-append-le, take_all}
@@ -23,7 +23,7 @@ use Rattle.py_tree.specs.Tree.{Tree, seen_as}
 use Rattle.py_laid.specs.Code.{IsPlain, flags_of}
 use Rattle.py_laid.specs.Fits.{Fits, Continues}
 use Rattle.py_grammar.specs.declared.script.Declaration.{Declaration}
-use Rattle.py_grammar.specs.Grammar.{Decl, Coded, OfBody, OfRaw}
+use Rattle.py_grammar.specs.Grammar.{Decl, Coded, OfBody, OfRaw, coded_name}
 use Rattle.py_grammar.specs.Script.{decl_of}
 use Rattle.py_run.specs.Run.{Signature}
 use Rattle.py_vm.specs.Codes.{Checked, CodeIsAnswered, IsDriven, TakesPositional, plain_codes, shapes_of, signature_in, signatures_of, takes_none}
@@ -32,7 +32,9 @@ use Rattle.py_objects.proofs.NewLemmas.{newest}
 use Rattle.py_meaning.specs.Whole.{signature_of}
 use Rattle.py_script.specs.Compiled.{AreCompiled, IsCodeOf}
 use Rattle.py_script.specs.Loaded.{AreChecked, AreLoadable, AreReady, IsLoadable, IsReadyCode}
-use Rattle.py_script.specs.Shapes.{free_names, shapes_before}
+use Rattle.py_script.specs.Earlier.{earlier_before, earlier_of, free_names}
+use Rattle.py_raw.specs.declared.earlier.Earlier.{Earlier}
+use Rattle.py_raw.specs.Earlier.{with_code}
 use Rattle.py_raw.proofs.AssembledLemmas.{assembled_continues}
 use Rattle.py_meaning.proofs.Entries.{one_more}
 
@@ -136,16 +138,16 @@ plain_positional c t plain = record {
     no_varkeywords kind.Generator = refl
 
 -- a code of something is so also with names that go on
-code_continues : (names names' : List (List ℕ)) (shapes : List ℕ) (c : Annotated) (k : Coded) → Continues names names' → IsCodeOf names shapes c k → IsCodeOf names' shapes c k
-code_continues names names' shapes c (OfBody t) grows is = fits_continues names names' c t grows is
-code_continues names names' shapes c (OfRaw b) grows is = (assembled_continues names names' c b grows is.0, is.1)
+code_continues : (names names' : List (List ℕ)) (earlier : Earlier) (c : Annotated) (k : Coded) → Continues names names' → IsCodeOf names earlier c k → IsCodeOf names' earlier c k
+code_continues names names' earlier c (OfBody t) grows is = fits_continues names names' c t grows is
+code_continues names names' earlier c (OfRaw b) grows is = (assembled_continues names names' earlier.names c b grows is.0, is.1)
 
 -- and it is ready
-ready_continues : (names names' : List (List ℕ)) (shapes : List ℕ) (c : Annotated) (k : Coded) → Continues names names' → IsReadyCode names shapes c k → IsReadyCode names' shapes c k
-ready_continues names names' shapes c k grows ready =
+ready_continues : (names names' : List (List ℕ)) (earlier : Earlier) (c : Annotated) (k : Coded) → Continues names names' → IsReadyCode names earlier c k → IsReadyCode names' earlier c k
+ready_continues names names' earlier c k grows ready =
     let named = ready.loadable.named in
     record {
-      is = code_continues names names' shapes c k grows ready.is;
+      is = code_continues names names' earlier c k grows ready.is;
       signed = ready.signed ∙ ap (λ (xs : List Name). let s : Signature = record { params = xs; kind = kind_of c.code.code.flags } in s) (sym (params_continue names names' c.code grows named));
       free = ready.free;
       loadable = record { typed = ready.loadable.typed; runs = ready.loadable.runs; named = names_continue names names' c.code grows named; answered = ready.loadable.answered };
@@ -160,44 +162,51 @@ pub ready_stays : (coded : List Coded) (names names' : List (List ℕ)) (cs : Li
     → AreReady coded (record { names = names'; codes = cs })
 ready_stays coded names names' cs all grows = record {
   count = all.count;
-  fit = λ i k is. let (c, at, ready) = all.fit i k is in (c, at, ready_continues names names' (shapes_before coded i) c k grows ready);
+  fit = λ i k is. let (c, at, ready) = all.fit i k is in (c, at, ready_continues names names' (earlier_before coded i) c k grows ready);
 }
 
 -- the codes before one of a list stay those before it as the list goes on
-shapes_stay : (coded : List Coded) (k : Coded) (i : ℕ) → i ≤ length coded → shapes_before (coded ++ k ∷ []) i ≡ shapes_before coded i
-shapes_stay coded k i low = ap (map free_names) (take-append-le i coded (k ∷ []) low)
+earlier_stay : (coded : List Coded) (k : Coded) (i : ℕ) → i ≤ length coded → earlier_before (coded ++ k ∷ []) i ≡ earlier_before coded i
+earlier_stay coded k i low = ap earlier_of (take-append-le i coded (k ∷ []) low)
 
 -- and those before the last are all others
-shapes_whole : (coded : List Coded) (k : Coded) → shapes_before (coded ++ k ∷ []) (length coded) ≡ map free_names coded
-shapes_whole coded k = shapes_stay coded k (length coded) (omega arith) ∙ ap (map free_names) (take_all (length coded) coded (omega arith))
+earlier_whole : (coded : List Coded) (k : Coded) → earlier_before (coded ++ k ∷ []) (length coded) ≡ earlier_of coded
+earlier_whole coded k = earlier_stay coded k (length coded) (omega arith) ∙ ap earlier_of (take_all (length coded) coded (omega arith))
 
 -- there is one code more, as the table goes on
 pub ready_more : (coded : List Coded) (names names' : List (List ℕ)) (cs : List Annotated) (k : Coded) (c : Annotated) → AreReady coded (record { names = names; codes = cs })
-    → Continues names names' → IsReadyCode names' (map free_names coded) c k → AreReady (coded ++ k ∷ []) (record { names = names'; codes = cs ++ c ∷ [] })
+    → Continues names names' → IsReadyCode names' (earlier_of coded) c k → AreReady (coded ++ k ∷ []) (record { names = names'; codes = cs ++ c ∷ [] })
 ready_more coded names names' cs k c all grows own = record {
   count = length-append cs (c ∷ []) ∙ ap (λ n. n + 1) all.count ∙ sym (length-append coded (k ∷ []));
   fit = λ i u is. go i u (one_more coded k u i is);
 }
   where
     go : (i : ℕ) (u : Coded) → (slice_get coded i ≡ Some u) ⊎ ((i ≡ length coded) × (k ≡ u))
-        → (d : Annotated) × (slice_get (cs ++ c ∷ []) i ≡ Some d) × IsReadyCode names' (shapes_before (coded ++ k ∷ []) i) d u
+        → (d : Annotated) × (slice_get (cs ++ c ∷ []) i ≡ Some d) × IsReadyCode names' (earlier_before (coded ++ k ∷ []) i) d u
     go i u (inl old) =
         let (d, at, ready) = all.fit i u old in
         let low : i < length coded = slice_get_within coded i u old in (
           d,
           slice_get_grown cs (c ∷ []) i d at,
-          subst (λ (s : List ℕ). IsReadyCode names' s d u) (sym (shapes_stay coded k i (omega (arith, low)))) (ready_continues names names' (shapes_before coded i) d u grows ready),
+          subst (λ (e : Earlier). IsReadyCode names' e d u) (sym (earlier_stay coded k i (omega (arith, low)))) (ready_continues names names' (earlier_before coded i) d u grows ready),
         )
     go i u (inr (at, new)) =
-        let here : IsReadyCode names' (shapes_before (coded ++ k ∷ []) i) c k =
-        subst (λ (s : List ℕ). IsReadyCode names' s c k) (sym (ap (shapes_before (coded ++ k ∷ [])) at ∙ shapes_whole coded k)) own in
-        (c, ap (slice_get (cs ++ c ∷ [])) (at ∙ sym all.count) ∙ newest cs c, subst (IsReadyCode names' (shapes_before (coded ++ k ∷ []) i) c) new here)
+        let here : IsReadyCode names' (earlier_before (coded ++ k ∷ []) i) c k =
+        subst (λ (e : Earlier). IsReadyCode names' e c k) (sym (ap (earlier_before (coded ++ k ∷ [])) at ∙ earlier_whole coded k)) own in
+        (c, ap (slice_get (cs ++ c ∷ [])) (at ∙ sym all.count) ∙ newest cs c, subst (IsReadyCode names' (earlier_before (coded ++ k ∷ []) i) c) new here)
 
--- how many free names the codes have, as they are counted from what they are of
-pub shapes_more : (coded : List Coded) (shapes : List ℕ) (names : List (List ℕ)) (k : Coded) (c : Annotated) → shapes ≡ map free_names coded → IsReadyCode names shapes c k
-    → shapes ++ length c.code.code.freevars.items ∷ [] ≡ map free_names (coded ++ k ∷ [])
-shapes_more coded shapes names k c is ready =
-    ap (λ (n : ℕ). shapes ++ n ∷ []) ready.free ∙ (ap (λ (s : List ℕ). s ++ free_names k ∷ []) is ∙ sym (map-append free_names coded (k ∷ [])))
+-- earlier codes by both parts
+-- earlier codes by both parts
+abbrev codes_with : List Name → List ℕ → Earlier
+codes_with names shapes = record { names = names; shapes = shapes }
+
+-- with one code more, what later codes read is that of the longer list
+pub earlier_more : (coded : List Coded) (earlier : Earlier) (names : List (List ℕ)) (k : Coded) (c : Annotated) → earlier ≡ earlier_of coded
+    → IsReadyCode names earlier c k → with_code earlier (coded_name k) (length c.code.code.freevars.items) ≡ earlier_of (coded ++ k ∷ [])
+earlier_more coded earlier names k c is ready =
+    ap (with_code earlier (coded_name k)) ready.free
+    ∙ (ap (λ (e : Earlier). with_code e (coded_name k) (free_names k)) is
+    ∙ sym (ap₂ codes_with (map-append coded_name coded (k ∷ [])) (map-append free_names coded (k ∷ []))))
 
 -- the front of two lists maps alike where each two entries do
 same_front : {A B C : Type 0} (f : A → C) (g : B → C) (n : ℕ) (xs : List A) (ys : List B) → length xs ≡ length ys
@@ -236,11 +245,11 @@ one_entry x y is = cc is
 
 -- each code is one of what has its place
 ready_is : (coded : List Coded) (cs : Checked) (i : ℕ) (c : Annotated) → AreReady coded cs → slice_get cs.codes i ≡ Some c
-    → (k : Coded) × (slice_get coded i ≡ Some k) × IsReadyCode cs.names (shapes_before coded i) c k
+    → (k : Coded) × (slice_get coded i ≡ Some k) × IsReadyCode cs.names (earlier_before coded i) c k
 ready_is coded cs i c all is =
     let (k, at) = at_place cs.codes coded i c all.count is in
     let (d, here, own) = all.fit i k at in
-    (k, at, subst (λ (x : Annotated). IsReadyCode cs.names (shapes_before coded i) x k) (one_entry d c (sym here ∙ is)) own)
+    (k, at, subst (λ (x : Annotated). IsReadyCode cs.names (earlier_before coded i) x k) (one_entry d c (sym here ∙ is)) own)
 
 -- codes that are ready are checked
 pub ready_checked : (coded : List Coded) (cs : Checked) → AreReady coded cs → AreChecked coded cs
@@ -258,7 +267,7 @@ ready_loadable coded cs all i c is =
     free : (j : ℕ) (u : Coded) (d : Annotated) → slice_get coded j ≡ Some u → slice_get cs.codes j ≡ Some d → free_names u ≡ length d.code.code.freevars.items
     free j u d at here = let (e, there, ready) = all.fit j u at in sym (ap (λ (a : Annotated). length a.code.code.freevars.items) (one_entry d e (sym here ∙ there)) ∙ ready.free)
 
-    shapes : shapes_before coded i ≡ shapes_of (take i cs.codes)
+    shapes : (earlier_before coded i).shapes ≡ shapes_of (take i cs.codes)
     shapes = same_front free_names (λ (a : Annotated). length a.code.code.freevars.items) i coded cs.codes (sym all.count) free
 
 -- codes that were checked are compiled, with their notes
@@ -271,13 +280,13 @@ checked_compiled coded cs all = record {
 }
 
 -- the code of a body is ready where it fits
-pub fits_ready : (names : List (List ℕ)) (shapes : List ℕ) (c : Annotated) (t : Tree) → Fits names c t → IsPlain c t → CodeIsAnswered c.code → IsReadyCode names shapes c (OfBody t)
-fits_ready names shapes c t fits plain answered = record {
+pub fits_ready : (names : List (List ℕ)) (earlier : Earlier) (c : Annotated) (t : Tree) → Fits names c t → IsPlain c t → CodeIsAnswered c.code → IsReadyCode names earlier c (OfBody t)
+fits_ready names earlier c t fits plain answered = record {
   is = fits;
   signed = ap (λ (xs : List Name). let s : Signature = record { params = xs; kind = seen_as t.kind } in s) (sym fits.params)
       ∙ ap (λ (o : Option CoroKind). let s : Signature = record { params = params_of names c.code; kind = o } in s) (sym fits.kind);
   free = ap length plain.cells.2;
-  loadable = record { typed = fits.typed shapes; runs = fits.sound.runs; named = fits.sound.named; answered = answered };
+  loadable = record { typed = fits.typed earlier.shapes; runs = fits.sound.runs; named = fits.sound.named; answered = answered };
 }
 
 -- all codes have the signatures of what they are of

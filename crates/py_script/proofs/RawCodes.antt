@@ -29,6 +29,7 @@ use Rattle.py_grammar.specs.declared.raw_block.RawCounts.{RawCounts}
 use Rattle.py_grammar.specs.Grammar.{OfRaw}
 use Rattle.py_grammar.specs.RawRules.{is_heeded}
 use Rattle.py_grammar.specs.WellFormed.{IsWellCoded}
+use Rattle.py_raw.specs.declared.earlier.Earlier.{Earlier}
 use Rattle.py_raw.specs.RawSheet.{counts_by, flags_of, locals_of}
 use Rattle.py_raw.specs.Assembled.{IsAssembled}
 use Rattle.py_raw.proofs.AssembledLemmas.{assembled_cells, assembled_frees, assembled_named, assembled_named_only, assembled_params, assembled_raises, assembled_runs}
@@ -106,71 +107,85 @@ without _ k none = refl
 
 -- ---- a raw code whose code this is
 
-module _ (table : List (List ℕ)) (a : Annotated) (b : RawBlock) (is : IsAssembled table a b) (coded : IsWellCoded b) where
-  flags : a.code.code.flags ≡ flags_of b.flags
-  flags = ap (λ (s : Sheet). s.flags) is.sheet
+module _
+    (table : List (List ℕ))
+    (earlier : Earlier)
+    (a : Annotated)
+    (b : RawBlock)
+    (is : IsAssembled table earlier.names a b)
+    (coded : IsWellCoded earlier.names b)
+  where
+    flags : a.code.code.flags ≡ flags_of b.flags
+    flags = ap (λ (s : Sheet). s.flags) is.sheet
 
-  seen : kind_of a.code.code.flags ≡ seen_as (raw_kind b)
-  seen =
-      let gen : (counts_if (flags_of b.flags) IS_GENERATOR == 1) ≡ list_any is_gen b.flags = any_generator b.flags ∙ gen_words b.flags in
-      let coro : (counts_if (flags_of b.flags) IS_COROUTINE == 1) ≡ false = any_coroutine b.flags ∙ none_of IS_COROUTINE no_coroutine b.flags coded.flags in
-      ap kind_of flags ∙ (ap (λ (g : Bool). kind_by g (counts_if (flags_of b.flags) IS_COROUTINE == 1)) gen ∙ (ap (kind_by (list_any is_gen b.flags)) coro ∙ by (list_any is_gen b.flags)))
-    where
-      by : (g : Bool) → kind_by g false ≡ seen_as (cond g kind.Generator kind.Function)
-      by true = refl
-      by false = refl
+    seen : kind_of a.code.code.flags ≡ seen_as (raw_kind b)
+    seen =
+        let gen : (counts_if (flags_of b.flags) IS_GENERATOR == 1) ≡ list_any is_gen b.flags = any_generator b.flags ∙ gen_words b.flags in
+        let coro : (counts_if (flags_of b.flags) IS_COROUTINE == 1) ≡ false = any_coroutine b.flags ∙ none_of IS_COROUTINE no_coroutine b.flags coded.flags in
+        ap kind_of flags ∙ (ap (λ (g : Bool). kind_by g (counts_if (flags_of b.flags) IS_COROUTINE == 1)) gen ∙ (ap (kind_by (list_any is_gen b.flags)) coro ∙ by (list_any is_gen b.flags)))
+      where
+        by : (g : Bool) → kind_by g false ≡ seen_as (cond g kind.Generator kind.Function)
+        by true = refl
+        by false = refl
 
-  -- it takes as many arguments as its counts say
-  params : params_of table a.code ≡ raw_params b
-  params = assembled_params table a b is ∙ ap (λ (n : ℕ). take n (locals_of b)) (same b.counts)
-    where
-      same : (counts : Option RawCounts) → (counts_by (length b.params) counts).args ≡ arity b counts
-      same None = refl
-      same (Some counts) = refl
+    -- it takes as many arguments as its counts say
+    params : params_of table a.code ≡ raw_params b
+    params = assembled_params table earlier.names a b is ∙ ap (λ (n : ℕ). take n (locals_of b)) (same b.counts)
+      where
+        same : (counts : Option RawCounts) → (counts_by (length b.params) counts).args ≡ arity b counts
+        same None = refl
+        same (Some counts) = refl
 
-  signed : signature_of (OfRaw b) ≡ signature_in table a
-  signed =
-      ap (λ (xs : List Name). let s : Signature = record { params = xs; kind = seen_as (raw_kind b) } in s) (sym params)
-      ∙ ap (λ (o : Option CoroKind). let s : Signature = record { params = params_of table a.code; kind = o } in s) (sym seen)
+    signed : signature_of (OfRaw b) ≡ signature_in table a
+    signed =
+        ap (λ (xs : List Name). let s : Signature = record { params = xs; kind = seen_as (raw_kind b) } in s) (sym params)
+        ∙ ap (λ (o : Option CoroKind). let s : Signature = record { params = params_of table a.code; kind = o } in s) (sym seen)
 
-  positional : TakesPositional a.code.code
-  positional = record {
-    varargs = ap (λ (f : CodeFlags). counts_if f HAS_VARARGS) flags ∙ no_varargs b.flags (none_of HAS_VARARGS no_further b.flags coded.flags);
-    varkeywords = ap (λ (f : CodeFlags). counts_if f HAS_VARKEYWORDS) flags ∙ no_varkeywords b.flags (none_of HAS_VARKEYWORDS no_keywords b.flags coded.flags);
-    keyword_only = assembled_named_only table a b is coded;
-    cells = ap (list_all takes_none) (assembled_cells table a b is);
-  }
+    positional : TakesPositional a.code.code
+    positional = record {
+      varargs = ap (λ (f : CodeFlags). counts_if f HAS_VARARGS) flags ∙ no_varargs b.flags (none_of HAS_VARARGS no_further b.flags coded.flags);
+      varkeywords = ap (λ (f : CodeFlags). counts_if f HAS_VARKEYWORDS) flags ∙ no_varkeywords b.flags (none_of HAS_VARKEYWORDS no_keywords b.flags coded.flags);
+      keyword_only = assembled_named_only table earlier.names a b is coded;
+      cells = ap (list_all takes_none) (assembled_cells table earlier.names a b is);
+    }
 
-  driven : IsDriven (kind_of a.code.code.flags)
-  driven = subst IsDriven (sym seen) (by (list_any is_gen b.flags))
-    where
-      by : (g : Bool) → IsDriven (seen_as (cond g kind.Generator kind.Function))
-      by true = tt
-      by false = tt
+    driven : IsDriven (kind_of a.code.code.flags)
+    driven = subst IsDriven (sym seen) (by (list_any is_gen b.flags))
+      where
+        by : (g : Bool) → IsDriven (seen_as (cond g kind.Generator kind.Function))
+        by true = tt
+        by false = tt
 
-  -- the machine answers all that its units ask
-  answered : CodeIsAnswered a.code
-  answered = code_answered (λ op arg. has_no_cause op (raise_of arg)) (record { no_cause = λ arg used. plain (raise_of arg) used }) a.code uses positional driven
-    where
-      uses : (at : ℕ) (u : CodeUnit) → slice_get a.code.code.instructions.items at ≡ Some u → has_no_cause u.op (raise_of u.arg) ≡ true
-      uses at u there = without u.op (raise_of u.arg) (assembled_raises table a b is coded at u there)
+    -- the machine answers all that its units ask
+    answered : CodeIsAnswered a.code
+    answered = code_answered (λ op arg. has_no_cause op (raise_of arg)) (record { no_cause = λ arg used. plain (raise_of arg) used }) a.code uses positional driven
+      where
+        uses : (at : ℕ) (u : CodeUnit) → slice_get a.code.code.instructions.items at ≡ Some u → has_no_cause u.op (raise_of u.arg) ≡ true
+        uses at u there = without u.op (raise_of u.arg) (assembled_raises table earlier.names a b is coded at u there)
 
-  -- it is ready where it keeps the rules
-  pub raw_ready : (shapes : List ℕ) → IsTyped shapes (sheet_of a) → IsReadyCode table shapes a (OfRaw b)
-  raw_ready shapes typed = record {
-    is = (is, typed);
-    signed = signed;
-    free = assembled_frees table a b is;
-    loadable = record { typed = typed; runs = assembled_runs table shapes a b is coded typed; named = assembled_named table a b is; answered = answered };
-  }
+    -- it is ready where it keeps the rules
+    pub raw_ready : IsTyped earlier.shapes (sheet_of a) → IsReadyCode table earlier a (OfRaw b)
+    raw_ready typed = record {
+      is = (is, typed);
+      signed = signed;
+      free = assembled_frees table earlier.names a b is;
+      loadable = record {
+        typed = typed;
+        runs = assembled_runs table earlier.shapes earlier.names a b is coded typed;
+        named = assembled_named table earlier.names a b is;
+        answered = answered;
+      };
+    }
 
-  -- so the code that is checked is
-  pub made_ready : (shapes : List ℕ) (r : Result Annotated CheckFault) → IfOk r (λ made. made ≡ a) → OnOk r (IsTyped shapes (sheet_of a)) → IfOk r (λ made. IsReadyCode table shapes made (OfRaw b))
-  made_ready shapes (Ok made) same typed = subst (λ (x : Annotated). IsReadyCode table shapes x (OfRaw b)) (sym same) (raw_ready shapes typed)
-  made_ready shapes (Err fault) same typed = tt
+    -- so the code that is checked is
+    pub made_ready : (r : Result Annotated CheckFault) → IfOk r (λ made. made ≡ a) → OnOk r (IsTyped earlier.shapes (sheet_of a))
+        → IfOk r (λ made. IsReadyCode table earlier made (OfRaw b))
+    made_ready (Ok made) same typed = subst (λ (x : Annotated). IsReadyCode table earlier x (OfRaw b)) (sym same) (raw_ready typed)
+    made_ready (Err fault) same typed = tt
 
-  -- else a rule is broken, or memory ran out
-  pub not_made : (shapes : List ℕ) (r : Result Annotated CheckFault) → ((at : ℕ) → r ≡ Err (check.Breaks at) → BreaksFirst shapes (sheet_of a) at) → IfErr r (IsCodeFault shapes (OfRaw b))
-  not_made shapes (Ok made) breaks = tt
-  not_made shapes (Err (check.Breaks at)) breaks = breaks_assembled table shapes a b at is (breaks at refl)
-  not_made shapes (Err check.NoMemory) breaks = tt
+    -- else a rule is broken, or memory ran out
+    pub not_made : (r : Result Annotated CheckFault) → ((at : ℕ) → r ≡ Err (check.Breaks at) → BreaksFirst earlier.shapes (sheet_of a) at)
+        → IfErr r (IsCodeFault earlier (OfRaw b))
+    not_made (Ok made) breaks = tt
+    not_made (Err (check.Breaks at)) breaks = breaks_assembled table earlier a b at is (breaks at refl)
+    not_made (Err check.NoMemory) breaks = tt

@@ -93,7 +93,7 @@ no_other_unit cs at (c, first, adds) other runs =
 -- ---- a raw code that returns its constant
 
 -- it has what frames heed, load and run
-block_coded : IsWellCoded block
+block_coded : IsWellCoded [] block
 block_coded = record {
   distinct = λ i j d low lower same. absurd (omega (arith, low, lower));
   few = omega arith;
@@ -106,7 +106,7 @@ block_coded = record {
   run = refl;
 }
   where
-    one_constant : All IsLoadable block.consts
+    one_constant : All (IsLoadable []) block.consts
     one_constant zero c low = tt
     one_constant (suc i) c low = absurd (omega (arith, low))
 
@@ -126,9 +126,9 @@ no_raw_sum cs at runs =
     let (e, is_e, (notes, (assembled, typed))) = runs.compiled.fit 0 (OfRaw block) refl in
     let same_code : e ≡ d = same_value (sym is_e ∙ is_first) in
     let code : Annotated = record { code = d; notes = notes } in
-    let is : IsAssembled cs.names code block = subst (λ (x : PyCode). IsAssembled cs.names (record { code = x; notes = notes }) block) same_code assembled in
+    let is : IsAssembled cs.names [] code block = subst (λ (x : PyCode). IsAssembled cs.names [] (record { code = x; notes = notes }) block) same_code assembled in
     let keeps : IsTyped [] (sheet_of code) = subst (λ (x : PyCode). IsTyped [] (sheet_of (record { code = x; notes = notes }))) same_code typed in
-    let sound : IsSound cs.names code = record { shapes = []; typed = keeps; runs = assembled_runs cs.names [] code block is block_coded keeps; named = assembled_named cs.names code block is } in
+    let sound : IsSound cs.names code = record { shapes = []; typed = keeps; runs = assembled_runs cs.names [] [] code block is block_coded keeps; named = assembled_named cs.names [] code block is } in
     let all = runs_tell objects cs.names runs.globals closure code slot args s us sound run in
     let units : d.code.instructions.items ≡ record { op = ReturnConst; arg = 0 } ∷ [] = ap (λ (s : Sheet). s.units) is.sheet in
     asks_nothing at (subst (λ (us : List CodeUnit). UnitAsks (slice_get us at) sum) units (asked_by d at us front all))

@@ -15,20 +15,21 @@ use Rattle.py_run.specs.declared.journal.Journal.{Journal}
 use Rattle.py_run.specs.Coming.{EachTells}
 use Rattle.py_vm.specs.RowsOf.{RowsOf}
 use Rattle.py_meaning.specs.Whole.{AreGlobals}
+use Rattle.py_raw.specs.declared.earlier.Earlier.{Earlier}
 use Rattle.py_raw.specs.Assembled.{IsAssembled}
-use Rattle.py_script.specs.Shapes.{shapes_before}
+use Rattle.py_script.specs.Earlier.{earlier_before}
 
--- with these names, and after codes of so many free names, a code with its notes is one of this: that of a body fits it; that of a raw
--- code is the code as it was written, and keeps the rules
-abbrev pub IsCodeOf : List (List ℕ) → List ℕ → Annotated → Coded → Type 0
-IsCodeOf names shapes c (OfBody t) = Fits names c t
-IsCodeOf names shapes c (OfRaw b) = IsAssembled names c b × IsTyped shapes (sheet_of c)
+-- with these names, and after these codes, a code with its notes is one of this: that of a body fits it; that of a raw code is the code
+-- as it was written, and keeps the rules
+abbrev pub IsCodeOf : List (List ℕ) → Earlier → Annotated → Coded → Type 0
+IsCodeOf names earlier c (OfBody t) = Fits names c t
+IsCodeOf names earlier c (OfRaw b) = IsAssembled names earlier.names c b × IsTyped earlier.shapes (sheet_of c)
 
 -- one of these codes is, with some notes, the code of what has its place
 abbrev pub IsPlacedCode : List Coded → Codes → ℕ → Coded → Type 0
 IsPlacedCode coded cs i k =
     (c : PyCode) × (slice_get cs.codes i ≡ Some c)
-    × ((notes : List Note) × IsCodeOf cs.names (shapes_before coded i) (record { code = c; notes = notes }) k)
+    × ((notes : List Note) × IsCodeOf cs.names (earlier_before coded i) (record { code = c; notes = notes }) k)
 
 -- there is a code for each of these, and the one at its place is one of it
 pub record AreCompiled (coded : List Coded) (cs : Codes) : Type 0 where

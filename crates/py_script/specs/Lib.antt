@@ -7,7 +7,7 @@ pub mod Words
 -- what comes of making a script from a seed
 pub mod Making
 -- which journals are handed back, which raw codes are refused, and when each answer of the top call comes
-pub mod Shapes
+pub mod Earlier
 pub mod Compiled
 pub mod Broken
 pub mod Laws

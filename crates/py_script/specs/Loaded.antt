@@ -14,12 +14,14 @@ use Rattle.py_grammar.specs.declared.script.Declaration.{Declaration}
 use Rattle.py_grammar.specs.Grammar.{Decl, ClassDecl, ManagerDecl, FunctionDecl, RawDecl, Coded, codes_in}
 use Rattle.py_grammar.specs.Script.{decl_of}
 use Rattle.py_grammar.specs.WellFormed.{IsWellCoded}
+use Rattle.py_raw.specs.declared.earlier.Earlier.{Earlier}
 use Rattle.py_tree.specs.Compilable.{IsCompilable}
+use Rattle.py_tree.specs.Tree.{Name}
 use Rattle.py_vm.specs.Codes.{Checked, CodeIsAnswered, shapes_of, signature_in}
 use Rattle.py_vm.specs.Machine.{Machine}
 use Rattle.py_meaning.specs.Whole.{AreObjects, signature_of}
 use Rattle.py_script.specs.Compiled.{IsCodeOf}
-use Rattle.py_script.specs.Shapes.{free_names, shapes_before}
+use Rattle.py_script.specs.Earlier.{free_names, earlier_before}
 
 -- None is the first object
 abbrev pub HasNone : List Payload → Type 0
@@ -37,12 +39,12 @@ IsOrderFrom objects base order = (above : ClassBody) × HasPayload objects base 
 
 -- ---- one code
 
--- a declaration whose code can be made: a function can be compiled, and a raw code has what can be run so far
-abbrev pub IsCodable : Decl → Type 0
-IsCodable (ClassDecl c b) = Unit {0}
-IsCodable (ManagerDecl m e x) = Unit {0}
-IsCodable (FunctionDecl t) = IsCompilable t
-IsCodable (RawDecl b) = IsWellCoded b
+-- a declaration whose code can be made after codes of these names: a function can be compiled, and a raw code has what can be run so far
+abbrev pub IsCodable : List Name → Decl → Type 0
+IsCodable earlier (ClassDecl c b) = Unit {0}
+IsCodable earlier (ManagerDecl m e x) = Unit {0}
+IsCodable earlier (FunctionDecl t) = IsCompilable t
+IsCodable earlier (RawDecl b) = IsWellCoded earlier b
 
 -- a code that the machine takes after codes of so many free names: it keeps the rules, each of its units runs so far, its names are in
 -- the table, and the machine answers all that it may ask
@@ -53,23 +55,23 @@ pub record IsLoadable (names : List (List ℕ)) (shapes : List ℕ) (code : Anno
   pub answered : CodeIsAnswered code.code
 
 -- it is one of this, with its signature and its free names
-pub record IsReadyCode (names : List (List ℕ)) (shapes : List ℕ) (code : Annotated) (k : Coded) : Type 0 where
-  pub is : IsCodeOf names shapes code k
+pub record IsReadyCode (names : List (List ℕ)) (earlier : Earlier) (code : Annotated) (k : Coded) : Type 0 where
+  pub is : IsCodeOf names earlier code k
   pub signed : signature_of k ≡ signature_in names code
   pub free : length code.code.code.freevars.items ≡ free_names k
-  pub loadable : IsLoadable names shapes code
+  pub loadable : IsLoadable names earlier.shapes code
 
 -- the code of a declaration, where it has one
-abbrev pub IsCodeFor : List (List ℕ) → List ℕ → Decl → Option Annotated → Type 0
-IsCodeFor names shapes d None = codes_in (d ∷ []) ≡ []
-IsCodeFor names shapes d (Some code) = (k : Coded) × (codes_in (d ∷ []) ≡ k ∷ []) × IsReadyCode names shapes code k
+abbrev pub IsCodeFor : List (List ℕ) → Earlier → Decl → Option Annotated → Type 0
+IsCodeFor names earlier d None = codes_in (d ∷ []) ≡ []
+IsCodeFor names earlier d (Some code) = (k : Coded) × (codes_in (d ∷ []) ≡ k ∷ []) × IsReadyCode names earlier code k
 
 -- ---- all codes
 
 -- there is a code for each of these, and the one at its place is one of it
 pub record AreReady (coded : List Coded) (cs : Checked) : Type 0 where
   pub count : length cs.codes ≡ length coded
-  pub fit : (i : ℕ) (k : Coded) → slice_get coded i ≡ Some k → (c : Annotated) × (slice_get cs.codes i ≡ Some c) × IsReadyCode cs.names (shapes_before coded i) c k
+  pub fit : (i : ℕ) (k : Coded) → slice_get coded i ≡ Some k → (c : Annotated) × (slice_get cs.codes i ≡ Some c) × IsReadyCode cs.names (earlier_before coded i) c k
 
 -- these are the codes of declarations, in order, with their names
 abbrev pub AreCodesOf : List Declaration → List (List ℕ) → List Annotated → Type 0
@@ -83,7 +85,7 @@ AreLoadable cs codes = (i : ℕ) (c : Annotated) → slice_get codes i ≡ Some 
 pub record AreChecked (coded : List Coded) (cs : Checked) : Type 0 where
   pub count : length cs.codes ≡ length coded
   pub fit : (i : ℕ) (k : Coded) → slice_get coded i ≡ Some k
-      → (c : Annotated) × (slice_get cs.codes i ≡ Some c) × IsCodeOf cs.names (shapes_before coded i) c k × (signature_of k ≡ signature_in cs.names c)
+      → (c : Annotated) × (slice_get cs.codes i ≡ Some c) × IsCodeOf cs.names (earlier_before coded i) c k × (signature_of k ≡ signature_in cs.names c)
 
 -- with more codes
 abbrev pub with_codes : Machine → List Annotated → Machine

@@ -7,8 +7,10 @@ ghost use Rattle.py_laid.specs.Fits.{Continues};
 ghost use Rattle.py_tree.specs.Compilable.{IsCompilable};
 ghost use Rattle.py_tree.specs.Views.{tree_of};
 ghost use Rattle.py_grammar.specs.Grammar.{OfBody, OfRaw};
+ghost use Rattle.py_grammar.specs.Rules.{is_among};
 ghost use Rattle.py_grammar.specs.Script.{decl_of, decls_of};
 ghost use Rattle.py_grammar.specs.WellFormed.{IsWellCoded, IsWellFormed};
+ghost use Rattle.py_raw.specs.Earlier.{with_code};
 ghost use Rattle.py_script.specs.Broken.{AllKeepRules, IsCodeFault, IsDeclFault, IsLoadFault};
 ghost use Rattle.py_script.specs.Loaded.{AreCodesOf, AreLoadable, IsCodable, IsCodeFor, IsReadyCode, with_codes};
 ghost use Rattle.py_meaning.specs.Entries.{AreDeclared, AreWellDeclared};
@@ -21,86 +23,90 @@ use crate::declaring::{add_declarations, object_named};
 use crate::fault::LoadFault;
 use crate::session::Session;
 use py_body::compile_body;
-use py_check::{CheckFault, CheckedCode, Shapes, check_code};
+use py_check::{CheckFault, CheckedCode, check_code};
 use py_code::{Names, NoMemory, PyText};
 use py_grammar::{Declaration, RawBlock, Script};
 use py_objects::{ObjList, PairList, Payload, PyObjectRef};
-use py_raw::assemble;
+use py_raw::{Earlier, assemble};
 use py_tree::Body;
 use py_vm::VirtualMachine;
 use std::alloc::Global;
 
-/// The code of a body, checked as the code behind others of these shapes. A body has no bodies inside of it so far, and what it is compiled
-/// to keeps the rules, whatever the shapes.
+/// The code of a body, checked as the code after these. A body has no bodies inside of it so far, and what it is compiled to keeps the rules,
+/// whatever the others are.
 fn compile_one(
     alloc: Global,
     names: &mut Names,
+    earlier: &Earlier,
     body: &Body,
-    shapes: &Shapes,
 ) -> Result<CheckedCode, NoMemory>
     requires { IsCompilable (tree_of body.now) }
-    ensures ready { IfOk result (λ code. IsReadyCode names.new shapes.now code (OfBody (tree_of body.now))) }
+    ensures ready { IfOk result
+        (λ code. IsReadyCode names.new earlier.now code (OfBody (tree_of body.now))) }
     ensures grows { Continues names.old names.new }
 {
-    let codes = compile_body(alloc, names, body, shapes.len())?;
+    let codes = compile_body(alloc, names, body, earlier.shapes.len())?;
     let Some(code) = codes.into_vec().pop() else {
         unreachable!();
     };
-    match check_code(alloc, code, shapes) {
+    match check_code(alloc, code, &earlier.shapes) {
         Ok(code) => Ok(code),
         Err(CheckFault::NoMemory) => Err(NoMemory),
         Err(CheckFault::Breaks(_)) => unreachable!(),
     }
 }
 
-/// The code of a raw code, checked as the code after others of these shapes.
+/// The code of a raw code, checked as the code after these.
 fn assemble_one(
     alloc: Global,
     names: &mut Names,
+    earlier: &Earlier,
     block: &RawBlock,
-    shapes: &Shapes,
 ) -> Result<CheckedCode, CheckFault>
-    requires { IsWellCoded block.now }
-    ensures ready { IfOk result (λ code. IsReadyCode names.new shapes.now code (OfRaw block.now)) }
-    ensures fault { IfErr result (IsCodeFault shapes.now (OfRaw block.now)) }
+    requires { IsWellCoded earlier.now.names block.now }
+    ensures ready { IfOk result (λ code. IsReadyCode names.new earlier.now code (OfRaw block.now)) }
+    ensures fault { IfErr result (IsCodeFault earlier.now (OfRaw block.now)) }
     ensures grows { Continues names.old names.new }
 {
-    let code = assemble(alloc, names, block)?;
-    check_code(alloc, code, shapes)
+    let code = assemble(alloc, names, &earlier.names, block)?;
+    check_code(alloc, code, &earlier.shapes)
 }
 
-/// The code of a declaration, where it has one, checked as the code after others of these shapes.
+/// The code of a declaration, where it has one, checked as the code after these.
 fn code_for(
     alloc: Global,
     names: &mut Names,
+    earlier: &Earlier,
     declaration: &Declaration,
-    shapes: &Shapes,
 ) -> Result<Option<CheckedCode>, CheckFault>
-    requires { IsCodable (decl_of declaration.now) }
-    ensures made { IfOk result (IsCodeFor names.new shapes.now (decl_of declaration.now)) }
-    ensures fault { IfErr result (IsDeclFault shapes.now (decl_of declaration.now)) }
+    requires { IsCodable earlier.now.names (decl_of declaration.now) }
+    ensures made { IfOk result (IsCodeFor names.new earlier.now (decl_of declaration.now)) }
+    ensures fault { IfErr result (IsDeclFault earlier.now (decl_of declaration.now)) }
     ensures grows { Continues names.old names.new }
 {
     match declaration {
         Declaration::Class(_, _) => Ok(None),
         Declaration::Manager(_, _, _) => Ok(None),
-        Declaration::Function(body) => Ok(Some(compile_one(alloc, names, body, shapes)?)),
-        Declaration::Raw(block) => Ok(Some(assemble_one(alloc, names, block, shapes)?)),
+        Declaration::Function(body) => Ok(Some(compile_one(alloc, names, earlier, body)?)),
+        Declaration::Raw(block) => Ok(Some(assemble_one(alloc, names, earlier, block)?)),
     }
 }
 
-/// Puts a code after the others, and how many free names it has after theirs.
+/// Puts a code of a new name after the others, also as one that later ones may name.
 fn push_code(
     codes: &mut Vec<CheckedCode>,
-    shapes: &mut Shapes,
+    earlier: &mut Earlier,
+    name: &PyText,
     code: CheckedCode,
 ) -> Result<(), NoMemory>
+    requires { is_among name.now earlier.old.names ≡ false }
     ensures codes { OnOk result (codes.new.items ≡ codes.old.items ++ code ∷ []) }
-    ensures shapes { OnOk result (shapes.new ≡ shapes.old ++ length code.code.code.freevars.items ∷ []) }
+    ensures earlier { OnOk result
+        (earlier.new ≡ with_code earlier.old name.now (length code.code.code.freevars.items)) }
 {
     let free = code.code().code.freevars.len();
     codes.push(code)?;
-    shapes.push(free)?;
+    earlier.push(name, free)?;
     Ok(())
 }
 
@@ -115,15 +121,15 @@ fn codes_for(
     ensures fault { IfErr result (IsLoadFault (map decl_of declarations.now)) }
 {
     let mut codes = Vec::new(alloc);
-    let mut shapes = Shapes::new(alloc);
+    let mut earlier = Earlier::new(alloc);
     for declaration in declarations {
-        let made = match code_for(alloc, names, declaration, &shapes) {
+        let made = match code_for(alloc, names, &earlier, declaration) {
             Ok(made) => made,
             Err(CheckFault::Breaks(at)) => return Err(LoadFault::Refused(codes.len(), at)),
             Err(CheckFault::NoMemory) => return Err(LoadFault::NoMemory),
         };
         if let Some(code) = made {
-            push_code(&mut codes, &mut shapes, code)?;
+            push_code(&mut codes, &mut earlier, declaration.name(), code)?;
         }
     }
     Ok(codes)

@@ -1,4 +1,4 @@
-use Rattle.py_grammar.proofs.WorkedRawLemmas.{raw_is_script, twice_bad, late_bad, shallow_bad, coro_bad, var_args_bad, var_kw_bad, named_bad, cells_bad, frees_bad, code_const_bad, tuple_const_bad, op_bad, ask_bad, compare_bad, test_bad, raise_bad, empty_bad, other_bad, open_bad, same_params_bad, same_name_bad}
+use Rattle.py_grammar.proofs.WorkedRawLemmas.{raw_is_script, twice_bad, late_bad, shallow_bad, coro_bad, var_args_bad, var_kw_bad, named_bad, cells_bad, frees_bad, own_const_bad, class_const_bad, op_bad, ask_bad, compare_bad, test_bad, raise_bad, empty_bad, other_bad, open_bad, same_params_bad, same_name_bad}
 use Rattle.py_grammar.proofs.raw_worked.worked_raw_codes.Goals as goal
 
 pub returns-clause-raw_is_script : goal.returns-clause-raw_is_script
@@ -31,11 +31,11 @@ returns-clause-cells_bad c = cells_bad
 pub returns-clause-frees_bad : goal.returns-clause-frees_bad
 returns-clause-frees_bad c = frees_bad
 
-pub returns-clause-code_const_bad : goal.returns-clause-code_const_bad
-returns-clause-code_const_bad c = code_const_bad
+pub returns-clause-own_const_bad : goal.returns-clause-own_const_bad
+returns-clause-own_const_bad c = own_const_bad
 
-pub returns-clause-tuple_const_bad : goal.returns-clause-tuple_const_bad
-returns-clause-tuple_const_bad c = tuple_const_bad
+pub returns-clause-class_const_bad : goal.returns-clause-class_const_bad
+returns-clause-class_const_bad c = class_const_bad
 
 pub returns-clause-op_bad : goal.returns-clause-op_bad
 returns-clause-op_bad c = op_bad

@@ -22,11 +22,11 @@ returns-clause-assembled c =
     let flags : c.flags_of.result ≡ flags_of b.flags = c.flags_of.ensures ∙ ap flags_of c.as_slice.ensures in
     let counts : c.counts_of-counts.result ≡ counts_of b = c.counts_of-counts.ensures in
     subst
-    (λ (o : CodeObject). IsAssembled table (record { code = record { code = o }; notes = c.in_ok-notes.notes }) b)
+    (λ (o : CodeObject). IsAssembled table c.args.earlier.now (record { code = record { code = o }; notes = c.in_ok-notes.notes }) b)
     (sym c.new-code.ensures)
     (record {
       literals = literals;
-      are_literals = subst (λ (cs : List RawConst). AreLiteralsOf cs literals) c.as_slice-2.ensures c.in_ok-literals_of.ensures;
+      are_literals = subst (λ (cs : List RawConst). AreLiteralsOf c.args.earlier.now cs literals) c.as_slice-2.ensures c.in_ok-literals_of.ensures;
       sheet = λ k. record {
         units = units k;
         locations = located k;
