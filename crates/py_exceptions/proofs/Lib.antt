@@ -11,3 +11,12 @@ mod PathLemmas
 mod ReprLemmas
 -- what a change of a traceback does
 pub mod TracebacksLemmas
+-- links, and walks along them
+mod LinksLemmas
+mod WalksLemmas
+mod OrdersLemmas
+-- what a change of a context does, and that contexts lead back to no exception
+mod ContextsLemmas
+mod AcyclicLemmas
+-- the objects that come as an exception is reduced
+mod ReducingLemmas

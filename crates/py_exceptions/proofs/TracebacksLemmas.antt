@@ -38,7 +38,7 @@ entry_grows old new next frame lasti lineno leads is_frame added =
     added_grown old new (traceback_entry next frame lasti lineno) added refl refl (λ fit. entry_below old.made next frame lasti lineno leads is_frame) (λ fit. (leads, is_frame))
 
 -- the objects behind an edit
-edited_objects : (old new : Kept) (o : Obj) (x : Edit) → IsEdited old new o x → objects_of new ≡ with_edit (objects_of old) o x
+pub edited_objects : (old new : Kept) (o : Obj) (x : Edit) → IsEdited old new o x → objects_of new ≡ with_edit (objects_of old) o x
 edited_objects old new o x edited =
     let c : Change = record { after = old.mark; object = o; edit = x } in
     ap (λ (l : List Payload). changed_by l new.changes) edited.made ∙ ap (changed_by old.made) edited.changes ∙ changed_by-append old.made old.changes c

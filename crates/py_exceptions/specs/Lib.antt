@@ -19,6 +19,13 @@ pub mod Texts
 pub mod Writing
 -- the tracebacks of exceptions
 pub mod Tracebacks
+-- links, walks along them, and what each walk meets
+pub mod Walks
+pub mod Orders
+pub mod Links
+-- the contexts of exceptions, and the entries of tracebacks
+pub mod Contexts
+pub mod Nexts
 -- what may be raised, and what comes of it
 pub mod Raisable
 pub mod Instantiating
@@ -26,5 +33,7 @@ pub mod Instantiating
 pub mod Normalizing
 -- what is said where memory may run out
 pub mod Memory
+-- what an exception can be made again from
+pub mod Reducing
 -- what the functions of the crate need of an exception
 pub mod Parts

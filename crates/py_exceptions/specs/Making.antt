@@ -1,12 +1,12 @@
 -- New exceptions among the objects of a run.
-use Rattle.std.specs.Prelude.{◌<◌, ◌≤◌, Option, Some, None, List, [], ◌∷◌, Bool, length, is_some}
+use Rattle.std.specs.Prelude.{◌<◌, ◌≤◌, Option, Some, None, List, [], ◌∷◌, Bool, codes, length, is_some}
 use Rattle.py_objects.specs.declared.refs.PyTypeRef.{PyTypeRef}
 use Rattle.py_objects.specs.declared.refs.PyBaseExceptionRef.{PyBaseExceptionRef}
 use Rattle.py_objects.specs.declared.payload.Payload.{Payload}
 use Rattle.py_objects.specs.declared.payload.Payload.TheVariants as payload
 use Rattle.py_objects.specs.declared.payload.ExceptionBody.{ExceptionBody}
 use Rattle.py_objects.specs.declared.payload.Fault.{Fault}
-use Rattle.py_objects.specs.declared.error_kind.ErrorKind.TheVariants.{OSError}
+use Rattle.py_objects.specs.declared.error_kind.ErrorKind.TheVariants.{OSError, ValueError}
 use Rattle.py_objects.specs.ErrorKinds.{name_of}
 use Rattle.py_objects.specs.Objects.{Obj, Name, HasPayload, as_object, class_object}
 use Rattle.py_objects.specs.Attrs.{Attrs}
@@ -67,3 +67,7 @@ IsNewFrom zoo fault cause old new e = IsNewOf zoo fault (Some (as_object cause))
 -- an exception of a class, with all that it holds, is new in a store
 abbrev pub IsAddedFrom : Kept → Kept → PyTypeRef → List Obj → Option Obj → Attrs → PyBaseExceptionRef → Type 0
 IsAddedFrom old new class arguments cause attrs e = IsNewInstanceFrom old.made new.made class arguments cause attrs e
+
+-- the refusal of a text that has a null character inside
+abbrev pub embedded_null : Fault
+embedded_null = record { kind = ValueError; text = codes "embedded null character" }

@@ -10,7 +10,7 @@ use py_objects::{ExceptionBody, Payload, PyObjectRef};
 use std::alloc::Global;
 
 /// An attribute of an exception, where it has one that isn't `None`.
-pub(crate) fn attribute(
+pub fn attribute(
     alloc: Global,
     objects: &[Payload],
     exception: &ExceptionBody,

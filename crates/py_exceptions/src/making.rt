@@ -5,7 +5,7 @@ ghost use Rattle.py_objects.specs.Objects.{as_object, attr_numbers, class_object
 ghost use Rattle.py_objects.specs.Growth.{IsGrown};
 ghost use Rattle.py_exceptions.specs.Classes.{HaveClasses};
 ghost use Rattle.py_exceptions.specs.Keeping.{kept_args as args_kept, kept_attrs as attrs_kept, os_args as args_of_os, os_attrs as attrs_of_os};
-ghost use Rattle.py_exceptions.specs.Making.{IsAddedFrom, IsNewCalled, IsNewFrom, IsNewOf};
+ghost use Rattle.py_exceptions.specs.Making.{embedded_null, IsAddedFrom, IsNewCalled, IsNewFrom, IsNewOf};
 
 use crate::zoo::ExceptionZoo;
 use py_code::{NoMemory, text_of};
@@ -42,6 +42,19 @@ pub fn new_exception_from(
     ensures made { IfOk result (IsNewFrom zoo.now fault.now cause store.old store.new) }
 {
     with_text(store, zoo, fault, Some(PyObjectRef::from(cause)))
+}
+
+/// A new exception for a text that has a null character inside, where none may be.
+pub fn cstring_error(store: &mut Store, zoo: &ExceptionZoo) -> Result<PyBaseExceptionRef, NoMemory>
+    requires { HaveClasses zoo.now store.old.made }
+    ensures grows { IsGrown store.old store.new }
+    ensures made { IfOk result (IsNewOf zoo.now embedded_null None store.old store.new) }
+{
+    let fault = Fault {
+        kind: ErrorKind::ValueError,
+        text: text_of(store.allocator(), b"embedded null character")?,
+    };
+    new_exception(store, zoo, &fault)
 }
 
 /// A new exception of a fault's kind and text, maybe with a cause.
@@ -135,7 +148,7 @@ fn kept_attrs(alloc: Global, os: bool, args: &[PyObjectRef]) -> Result<AttrMap, 
 }
 
 /// The arguments that an `OSError` keeps.
-fn os_args(alloc: Global, args: ObjList) -> Result<ObjList, NoMemory>
+pub(crate) fn os_args(alloc: Global, args: ObjList) -> Result<ObjList, NoMemory>
     ensures { IfOk result (λ kept. kept ≡ args_of_os args) }
 {
     match args.as_slice() {
@@ -147,7 +160,11 @@ fn os_args(alloc: Global, args: ObjList) -> Result<ObjList, NoMemory>
 }
 
 /// A list of two.
-fn two(alloc: Global, first: PyObjectRef, second: PyObjectRef) -> Result<ObjList, NoMemory>
+pub(crate) fn two(
+    alloc: Global,
+    first: PyObjectRef,
+    second: PyObjectRef,
+) -> Result<ObjList, NoMemory>
     ensures { IfOk result (λ list. list ≡ first ∷ second ∷ []) }
 {
     let mut list = ObjList::new(alloc);

@@ -1,11 +1,15 @@
-//! Classes, exceptions and tuples, as they are now.
+//! Classes, exceptions, entries of tracebacks and tuples, as they are now.
 
-ghost use Rattle.py_objects.specs.Objects.{as_object, HasPayload, IsClassObject, IsException};
+ghost use Rattle.py_objects.specs.Objects.{as_object, HasPayload, IsClassObject, IsException, IsTraceback};
 ghost use Rattle.py_objects.specs.Edits.{objects_of};
-ghost use Rattle.py_objects.specs.declared.payload.Payload.TheVariants.{Class, Exception, Tuple};
+ghost use Rattle.py_objects.specs.Refs.{object_of_traceback};
+ghost use Rattle.py_objects.specs.declared.payload.Payload.TheVariants.{Class, Exception, Traceback, Tuple};
 ghost use Rattle.py_exceptions.specs.Arguments.{IsTuple};
 
-use py_objects::{ClassBody, ExceptionBody, ObjList, PyBaseExceptionRef, PyObjectRef, Store};
+use py_objects::{
+    ClassBody, ExceptionBody, ObjList, Payload, PyBaseExceptionRef, PyObjectRef, PyTracebackRef,
+    Store, TracebackBody,
+};
 
 /// What a class is.
 pub(crate) fn class_body(store: &Store, class: PyObjectRef) -> &ClassBody
@@ -24,6 +28,17 @@ pub(crate) fn exception_body(store: &Store, exc: PyBaseExceptionRef) -> &Excepti
     ensures { HasPayload (objects_of store.now) (as_object exc) (Exception result.now) }
 {
     let Some(body) = store.get(PyObjectRef::from(exc)).exception() else {
+        unreachable!();
+    };
+    body
+}
+
+/// What an entry of a traceback is.
+pub(crate) fn traceback_body(store: &Store, tb: PyTracebackRef) -> &TracebackBody
+    requires { IsTraceback (objects_of store.now) (object_of_traceback tb) }
+    ensures { HasPayload (objects_of store.now) (object_of_traceback tb) (Traceback result.now) }
+{
+    let Payload::Traceback(body) = store.get(PyObjectRef::from(tb)) else {
         unreachable!();
     };
     body

@@ -24,7 +24,7 @@ pub fn push_whole_repr(
 }
 
 /// Puts an object as a text after a text.
-pub(crate) fn push_whole_str(
+pub fn push_whole_str(
     out: &mut String,
     objects: &[Payload],
     object: PyObjectRef,
