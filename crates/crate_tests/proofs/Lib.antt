@@ -1,3 +1,4 @@
 -- what holds of the objects of those stores
 pub mod ExitLemmas
 pub mod StopLemmas
+pub mod LinkedLemmas

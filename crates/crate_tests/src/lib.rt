@@ -11,6 +11,8 @@ mod codes;
 #[cfg(test)]
 mod compiling;
 #[cfg(test)]
+mod exception_links;
+#[cfg(test)]
 mod exception_texts;
 #[cfg(test)]
 mod exceptions;
@@ -26,3 +28,5 @@ mod notes;
 mod objects;
 #[cfg(test)]
 mod outside;
+#[cfg(test)]
+mod reports;

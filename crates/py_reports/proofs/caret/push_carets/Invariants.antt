@@ -1,0 +1,6 @@
+use Rattle.std.proofs.Common.{◌≡◌, ◌++◌}
+use Rattle.std.specs.Prelude.{replicate, string_bytes}
+use Rattle.py_reports.proofs.caret.push_carets.Given as goal
+
+abbrev pub invariant-loop-caret : goal.invariant-loop-caret
+invariant-loop-caret l = string_bytes l.out ≡ string_bytes l.fn.out ++ replicate l._caret 94

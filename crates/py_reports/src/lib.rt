@@ -1,0 +1,29 @@
+//! Reports of exceptions as CPython prints them: the chain of causes and contexts, each exception with its traceback.
+#![tactic(auto)]
+
+mod caret;
+mod chain;
+mod found;
+mod laws;
+mod lines;
+mod order;
+mod part;
+mod place;
+mod report;
+mod scene;
+mod source;
+mod stage;
+mod syntax;
+mod traceback;
+mod worked;
+mod write;
+
+pub use chain::{Chain, Chained, Sentence};
+pub use laws::laws_of_reports;
+pub use part::part_of;
+pub use place::{Place, Places};
+pub use report::Report;
+pub use source::{Source, Sources};
+pub use stage::{ReportStep, Stage};
+pub use worked::worked_reports;
+pub use write::write_report;
