@@ -22,7 +22,7 @@ use Rattle.py_exceptions.specs.Instantiating.{ClassWith, Instantiates, Instantia
 use Rattle.py_exceptions.specs.Memory.{UnlessNoMemory}
 use Rattle.py_exceptions.specs.Normalizing.{Normalizes, NormalizesWith}
 use Rattle.py_exceptions.specs.Parts.{HasParts}
-use Rattle.py_answers.specs.Readable.{IsReadable}
+use Rattle.py_answers.specs.Readable.{Links, IsReadable, with_links}
 use Rattle.py_answers.specs.Replying.{IsRead}
 use Rattle.py_answers.proofs.ReadingLemmas.{instance_as_made, is_read, parts_now, read_made, said_of_made, taken_as_made, tuple_now}
 use Rattle.py_answers.proofs.RepliesLemmas.{instance_of_grows, taken_grows}
@@ -89,12 +89,12 @@ dict_instantiates objects (ctor.Class class) v outcome ps qs (false, one, comes_
 dict_instantiates objects (ctor.Class class) v outcome ps qs (true, one, comes_to) = (true, one, comes_to)
 dict_instantiates objects (ctor.Instance e) v outcome ps qs is = is
 
--- and with an exception, whatever its traceback
-traced_instantiates : (objects : List Payload) (c : ExceptionCtor) (v : Obj) (outcome : Instantiate) (x : ExceptionBody) (t : Option Obj)
-    → InstantiatesAs objects c v (payload.Exception (record x { traceback = t })) outcome → InstantiatesAs objects c v (payload.Exception x) outcome
-traced_instantiates objects (ctor.Class class) v outcome x t (false, one, comes_to) = (false, one, comes_to)
-traced_instantiates objects (ctor.Class class) v outcome x t (true, one, comes_to) = (true, one, comes_to)
-traced_instantiates objects (ctor.Instance e) v outcome x t is = is
+-- and with an exception, whatever its links
+linked_instantiates : (objects : List Payload) (c : ExceptionCtor) (v : Obj) (outcome : Instantiate) (x : ExceptionBody) (l : Links)
+    → InstantiatesAs objects c v (payload.Exception (with_links l x)) outcome → InstantiatesAs objects c v (payload.Exception x) outcome
+linked_instantiates objects (ctor.Class class) v outcome x l (false, one, comes_to) = (false, one, comes_to)
+linked_instantiates objects (ctor.Class class) v outcome x l (true, one, comes_to) = (true, one, comes_to)
+linked_instantiates objects (ctor.Instance e) v outcome x l is = is
 
 -- with an object
 instantiates_made : (s : Kept) (c : ExceptionCtor) (v : Obj) (outcome : Instantiate) → IsReadable s → Instantiates (objects_of s) c v outcome → Instantiates s.made c v outcome
@@ -102,7 +102,7 @@ instantiates_made s c v outcome readable (q, has, comes_to) =
     let read : IsRead s.made v q = is_read s v q readable.unread has in (
       read.0,
       read.1,
-      said_of_made s.made (λ k. InstantiatesAs s.made c v k outcome) read.0 q read.2 (dict_instantiates s.made c v outcome) (traced_instantiates s.made c v outcome)
+      said_of_made s.made (λ k. InstantiatesAs s.made c v k outcome) read.0 q read.2 (dict_instantiates s.made c v outcome) (linked_instantiates s.made c v outcome)
           (instantiates_as_made s c v q outcome (read_made s.made v q readable.fit read) comes_to),
     )
 

@@ -14,13 +14,14 @@ use Rattle.py_objects.specs.declared.payload.ExceptionBody.{ExceptionBody}
 use Rattle.py_objects.specs.declared.payload.FunctionBody.{FunctionBody}
 use Rattle.py_objects.specs.declared.payload.ManagerBody.{ManagerBody}
 use Rattle.py_objects.specs.declared.event.Event.{Event}
-use Rattle.py_objects.specs.Objects.{Obj, Name, HasPayload, class_object, numbers, AllBelow, AreNamed, IfThere, IsClassObject, IsFunction, IsTraceback}
+use Rattle.py_objects.specs.Objects.{Obj, Name, HasPayload, class_object, numbers, AllBelow, AreNamed, IsClassObject, IsFunction}
 use Rattle.py_objects.specs.Positional.{is_positional, is_bare}
 use Rattle.py_objects.specs.Pairs.{Pairs}
 use Rattle.py_answers.specs.declared.reply.Reply.{Reply as MadeReply}
 use Rattle.py_answers.specs.declared.reply.Reply.TheVariants as made
 use Rattle.py_answers.specs.declared.answering.Answered.{Answered}
 use Rattle.py_answers.specs.declared.answering.Answered.TheVariants as answered
+use Rattle.py_answers.specs.Readable.{Links, AreLinks, with_links}
 use Rattle.py_answers.specs.Answers.{Calls, CallsAs, CallsExit, Fails, GivesValue, Has, Is, IsTypeName, Lacks, Makes, RefusesEntry, Replies, Reply, difference, less, not_supported, operated, sum, whole}
 
 -- the requests that are answered, by a reply or by the machine: of calls those without keyword arguments, of throws those without a traceback
@@ -188,13 +189,13 @@ IsClassCalled objects f p vs reply = (c : ClassBody) → p ≡ payload.Class c �
 abbrev pub IsRefused : List Payload → List ℕ → Payload → Payload → Reply → Type 0
 IsRefused objects sign p q reply = (left : Name) × (right : Name) × IsTypeName objects p left × IsTypeName objects q right × (reply ≡ not_supported sign left right)
 
--- payloads that may differ in the pairs of a dict, or in the traceback of an exception, alone; the second one's traceback was made
+-- payloads that may differ in the pairs of a dict, or in the links of an exception, alone
 abbrev pub IsLike : List Payload → Payload → Payload → Type 0
 IsLike objects p q =
     (q ≡ p)
     ⊎ ((ps : Pairs) × (qs : Pairs) × (p ≡ payload.Dict ps) × (q ≡ payload.Dict qs))
-    ⊎ ((e : ExceptionBody) × (t : Option Obj) × (p ≡ payload.Exception e) × (q ≡ payload.Exception (record e { traceback = t })) × IfThere (IsTraceback objects) t)
+    ⊎ ((e : ExceptionBody) × (l : Links) × (p ≡ payload.Exception e) × (q ≡ payload.Exception (with_links l e)) × AreLinks objects e l)
 
--- what an object is read as: what it was made as, except the pairs of a dict and the traceback of an exception
+-- what an object is read as: what it was made as, except the pairs of a dict and the links of an exception
 abbrev pub IsRead : List Payload → Obj → Payload → Type 0
 IsRead objects o q = (p : Payload) × HasPayload objects o p × IsLike objects p q

@@ -10,7 +10,7 @@ ghost use Rattle.py_answers.specs.Readable.{IsReadable};
 
 use py_objects::{ErrorKind, Payload, PyObjectRef, PyTypeRef, Store};
 
-/// What an object is: as it was made, except the pairs of a dict and the traceback of an exception.
+/// What an object is: as it was made, except the pairs of a dict and the links of an exception.
 pub fn entry(store: &Store, object: PyObjectRef) -> &Payload
     requires readable { IsReadable store.now }
     requires below { object.number < length store.now.made }

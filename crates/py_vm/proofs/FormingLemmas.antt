@@ -1,5 +1,5 @@
 -- A drive by which an exception is made: what it leaves of a machine between drives, and which part of a run it adds.
-use Rattle.std.proofs.Common.{◌≡◌, ◌≤◌, ◌<◌, ◌+◌, ◌++◌, ℕ, suc, List, [], ◌∷◌, true, false, Some, Ok, Err, inr, refl, sym, ap, subst, ◌∙◌, length, length-append, append_assoc, append-nil, arith}
+use Rattle.std.proofs.Common.{◌≡◌, ◌≤◌, ◌<◌, ◌+◌, ◌++◌, ℕ, suc, List, [], ◌∷◌, true, false, Some, Ok, Err, inl, inr, refl, sym, ap, subst, ◌∙◌, length, length-append, append_assoc, append-nil, arith}
 use Rattle.std.specs.Prelude.{Option, None, slice_get, take}
 use Rattle.std.proofs.lemmas.Option.{slice_get_within}
 use Rattle.py_objects.specs.declared.refs.PyBaseExceptionRef.{PyBaseExceptionRef}
@@ -16,6 +16,7 @@ use Rattle.py_objects.proofs.GrowthLemmas.{payload_grown, plainly_grows, grows_p
 use Rattle.py_objects.proofs.GrownLemmas.{grown_refl, longer_refl}
 use Rattle.py_exceptions.specs.Tracebacks.{traceback_object}
 use Rattle.py_answers.specs.Answers.{Reply, GivesDrive}
+use Rattle.py_objects.specs.declared.edit.LinkField.TheVariants as link
 use Rattle.py_answers.specs.Readable.{ChangeUnread}
 use Rattle.py_answers.proofs.ReadableLemmas.{change_unread, changes_grown}
 use Rattle.py_run.specs.declared.drive.Drive.{Drive}
@@ -126,7 +127,7 @@ unread_by : (objects objects' : List Payload) (cs : List Change) (x : Makings) (
 unread_by objects objects' cs x n (form.Raised e) grows is unread = subst (ChangeUnread objects') (sym (append-nil cs)) (changes_grown objects objects' cs grows unread)
 unread_by objects objects' cs x n (form.Made e None) grows is unread = subst (ChangeUnread objects') (sym (append-nil cs)) (changes_grown objects objects' cs grows unread)
 unread_by objects objects' cs x n (form.Made e (Some t)) grows (reply, normalizes, value, read, exception, (b, has)) unread =
-    change_unread objects' cs _ (inr (exception, (traceback_object (Some t), refl, (b, payload_grown objects objects' _ _ grows has)))) (changes_grown objects objects' cs grows unread)
+    change_unread objects' cs _ (inr (exception, inl (link.Traceback, traceback_object (Some t), refl, (b, payload_grown objects objects' _ _ grows has)))) (changes_grown objects objects' cs grows unread)
 
 -- what its result names is there
 answer_below : (old new : List Payload) (x : Makings) (f : Formed) → IsFormOf old new x f → AllBelow (length new) (result_numbers (answer_of f))
