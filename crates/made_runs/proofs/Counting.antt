@@ -396,7 +396,7 @@ body_tells more k n x =
             true_object,
             refl,
             hears true_object
-                (true, refl, inr (inr (thrown e (inr (inr (one_object, refl, hears one_object (inr (inr (0, refl))))))))),
+                (true, refl, inr (inr (thrown e (refl, inr (inr (one_object, refl, hears one_object (inr (inr (0, refl))))))))),
           ),
         ),
       ),

@@ -53,11 +53,11 @@ idle d ms = record { done = d; phase = Idle; stack = []; made = ms }
 
 -- an activation that runs
 abbrev pub going : ℕ → Act
-going a = record { number = a; asks = None; own = None }
+going a = record { number = a; asks = None; own = None; at = 0 }
 
--- an activation whose question is open, while this is handled
+-- an activation whose question is open, which its unit 0 asked, while this is handled
 abbrev pub asking : ℕ → Request → Option PyBaseExceptionRef → Act
-asking a r own = record { number = a; asks = Some r; own = own }
+asking a r own = record { number = a; asks = Some r; own = own; at = 0 }
 
 -- a past in which one activation runs, which a drive entered
 abbrev pub in_body : List Event → (d a : ℕ) → List Activation → List Generator → Past

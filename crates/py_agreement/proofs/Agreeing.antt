@@ -236,7 +236,7 @@ module _ (S : Relation) where
     finishes_agree (Asks_one r) is line (v ∷ []) (w ∷ []) h h' K K' s same_h agree = requests_agree line (r v) (r w) h h' K K' (is v w s.0) same_h agree
     finishes_agree (Asks_two r) is line (v ∷ x ∷ []) (w ∷ y ∷ []) h h' K K' s same_h agree = requests_agree line (r v x) (r w y) h h' K K' (is v w x y s.0 s.1.0) same_h agree
     finishes_agree Calls_it is line (f ∷ vs) (g ∷ ws) h h' K K' s same_h agree = calls_agree line f g vs ws h h' K K' s.0 s.1 same_h agree
-    finishes_agree Yields_it is line (v ∷ []) (w ∷ []) h h' K K' s same_h agree = yielded_agree S (λ at. scene.is_of at line) (λ at. scene'.is_of at line) v w K K' s.0 agree
+    finishes_agree Yields_it is line (v ∷ []) (w ∷ []) h h' K K' s same_h agree = yielded_agree S (λ i. scene.throws_under i h) (λ i. scene'.throws_under i h') (λ at. scene.is_of at line) (λ at. scene'.is_of at line) v w K K' s.0 agree
     finishes_agree (Asks_one r) is line (v ∷ []) [] h h' K K' s same_h agree = absurd s
     finishes_agree (Asks_one r) is line (v ∷ []) (w ∷ y ∷ ws) h h' K K' s same_h agree = absurd s.1
     finishes_agree (Asks_two r) is line (v ∷ x ∷ []) [] h h' K K' s same_h agree = absurd s
@@ -415,7 +415,7 @@ module _ (S : Relation) where
     entered_agree : (t : Tree) (vs ws : List Obj) (i j : ℕ) (w w' : ResumeHow) (ts us : List Own) → SameAll S vs ws → SameHow S w w' → Entered scene t vs i w ts → Entered scene' t ws j w' us → Agree S ts us
     entered_agree t vs ws i j how.Start how.Start ts us same s a b = suites_agree t.suite _ _ None None _ _ (begun_same S (locals_of t) vs ws same) tt ends_agree i j ts us a b
     entered_agree t vs ws i j (how.Send v) (how.Send w) ts us same s a b = absurd a
-    entered_agree t vs ws i j (how.Throw e) (how.Throw f) ts us same s a b = ended_agree (ending.Raise e) (ending.Raise f) ts us s a.1 b.1
+    entered_agree t vs ws i j (how.Throw e) (how.Throw f) ts us same s a b = ended_agree (ending.Raise e) (ending.Raise f) ts us s a.2 b.2
     entered_agree t vs ws i j _ _ ts us same s a b = absurd s
 
     begun_agree : (t : Tree) (vs ws : List Obj) (ts us : List Own) → SameAll S vs ws → IsBegun scene t vs ts → IsBegun scene' t ws us → Agree S ts us

@@ -70,19 +70,20 @@ module _ (S : Relation) where
       cut_agree _ _ _ _
       (λ i j ts us (at, mid, is, e, a) (at', mid', is', f, b). both_tell (Asks at r h) (Asks at' r' h') ts us mid mid' e f (same_r, same_h, answered_agree K K' agree i j mid mid' a b))
 
-  go_on_agree : (w w' : ResumeHow) (K K' : AfterValue) (i j : ℕ) (ts us : List Own) → ValuesAgree K K' → GoesOn w i ts K → GoesOn w' j us K' → SameHow S w w' → Agree S ts us
-  go_on_agree how.Start how.Start K K' i j ts us agree a b s = absurd a
-  go_on_agree (how.Send v) (how.Send w) K K' i j ts us agree a b s = agree (Given v) (Given w) s i j ts us a b
-  go_on_agree (how.Throw e) (how.Throw f) K K' i j ts us agree a b s = agree (Failed e) (Failed f) s i j ts us a b
-  go_on_agree _ _ K K' i j ts us agree a b s = absurd s
+  module _ (throws throws' : ℕ → Bool) where
+    go_on_agree : (w w' : ResumeHow) (K K' : AfterValue) (i j : ℕ) (ts us : List Own) → ValuesAgree K K' → GoesOn throws w i ts K → GoesOn throws' w' j us K' → SameHow S w w' → Agree S ts us
+    go_on_agree how.Start how.Start K K' i j ts us agree a b s = absurd a
+    go_on_agree (how.Send v) (how.Send w) K K' i j ts us agree a b s = agree (Given v) (Given w) s i j ts us a b
+    go_on_agree (how.Throw e) (how.Throw f) K K' i j ts us agree a b s = agree (Failed e) (Failed f) s i j ts us a.1 b.1
+    go_on_agree _ _ K K' i j ts us agree a b s = absurd s
 
-  resumed_agree : (K K' : AfterValue) → ValuesAgree K K' → Agreeing (λ i ts. Resumed i ts K) (λ j us. Resumed j us K')
-  resumed_agree K K' agree =
-      cut_agree _ _ _ _ (λ i j ts us (k, w, mid, e, a) (l, w', mid', f, b). both_tell (Resumes k w) (Resumes l w') ts us mid mid' e f (go_on_agree w w' K K' k l mid mid' agree a b))
+    resumed_agree : (K K' : AfterValue) → ValuesAgree K K' → Agreeing (λ i ts. Resumed throws i ts K) (λ j us. Resumed throws' j us K')
+    resumed_agree K K' agree =
+        cut_agree _ _ _ _ (λ i j ts us (k, w, mid, e, a) (l, w', mid', f, b). both_tell (Resumes k w) (Resumes l w') ts us mid mid' e f (go_on_agree w w' K K' k l mid mid' agree a b))
 
-  pub yielded_agree : (units units' : ℕ → Bool) (v w : Obj) (K K' : AfterValue) → S v w → ValuesAgree K K' → Agreeing (λ i ts. Yielded units v i ts K) (λ j us. Yielded units' w j us K')
-  yielded_agree units units' v w K K' s agree =
-      cut_agree _ _ _ _ (λ i j ts us (at, mid, is, e, a) (at', mid', is', f, b). both_tell (Yields at v) (Yields at' w) ts us mid mid' e f (s, resumed_agree K K' agree i j mid mid' a b))
+    pub yielded_agree : (units units' : ℕ → Bool) (v w : Obj) (K K' : AfterValue) → S v w → ValuesAgree K K' → Agreeing (λ i ts. Yielded units throws v i ts K) (λ j us. Yielded units' throws' w j us K')
+    yielded_agree units units' v w K K' s agree =
+        cut_agree _ _ _ _ (λ i j ts us (at, mid, is, e, a) (at', mid', is', f, b). both_tell (Yields at v) (Yields at' w) ts us mid mid' e f (s, resumed_agree K K' agree i j mid mid' a b))
 
   pub rounded_agree : (cut cut' : ℕ → Type 0) (P Q : ℕ → List Own → Type 0) → Agreeing P Q → Agreeing (λ i ts. Rounded ts (cut i) (P i)) (λ j us. Rounded us (cut' j) (Q j))
   rounded_agree cut cut' P Q agree = cut_agree _ _ _ _ (λ i j ts us (at, mid, e, a) (at', mid', f, b). both_tell (Rounds at) (Rounds at') ts us mid mid' e f (agree i j mid mid' a b))

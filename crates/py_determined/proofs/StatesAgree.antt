@@ -38,11 +38,11 @@ use Rattle.py_determined.proofs.Requests.{BothAsk, BothUnbound, BothGlobal, Both
 module _ (S : Relation) where
   -- ---- states
 
-  top_same : (q q' : Option Request) (own own' : Option PyBaseExceptionRef) (stack stack' : List Act) → SameMaybe (SameAsked S) q q' → SameHandled S own own' → SameActs S stack stack'
-      → SameActs S (top_asks q own stack) (top_asks q' own' stack')
-  top_same q q' own own' [] [] same_q same_own s = tt
-  top_same q q' own own' (a ∷ stack) (b ∷ stack') same_q same_own s = (record { number = s.0.number; asks = same_q; own = same_own }, s.1)
-  top_same q q' own own' _ _ same_q same_own s = absurd s
+  top_same : (q q' : Option Request) (own own' : Option PyBaseExceptionRef) (at at' : ℕ) (stack stack' : List Act) → SameMaybe (SameAsked S) q q' → SameHandled S own own' → SameActs S stack stack'
+      → SameActs S (top_asks q own at stack) (top_asks q' own' at' stack')
+  top_same q q' own own' at at' [] [] same_q same_own s = tt
+  top_same q q' own own' at at' (a ∷ stack) (b ∷ stack') same_q same_own s = (record { number = s.0.number; asks = same_q; own = same_own }, s.1)
+  top_same q q' own own' at at' _ _ same_q same_own s = absurd s
 
   rest_same : (stack stack' : List Act) → SameActs S stack stack' → SameActs S (drop 1 stack) (drop 1 stack')
   rest_same [] [] s = tt
@@ -73,8 +73,8 @@ module _ (S : Relation) where
   after_same s s' (event.Resume a h) (event.Resume b h') same is =
       record { done = same.done; phase = tt; stack = (record { number = is.0; asks = tt; own = tt }, same.stack); made = same.made }
   after_same s s' (event.Ask a r own at) (event.Ask b r' own' at') same is =
-      record { done = same.done; phase = tt; stack = top_same (Some r) (Some r') own own' s.stack s'.stack is.1 is.2 same.stack; made = same.made }
-  after_same s s' (event.Got a w) (event.Got b w') same is = record { done = same.done; phase = tt; stack = top_same None None None None s.stack s'.stack tt tt same.stack; made = same.made }
+      record { done = same.done; phase = tt; stack = top_same (Some r) (Some r') own own' at at' s.stack s'.stack is.1 is.2 same.stack; made = same.made }
+  after_same s s' (event.Got a w) (event.Got b w') same is = record { done = same.done; phase = tt; stack = top_same None None None None 0 0 s.stack s'.stack tt tt same.stack; made = same.made }
   after_same s s' (event.Round a at) (event.Round b at') same is = same
   after_same s s' (event.Yield a v at) (event.Yield b w at') same is = record { done = same.done; phase = is.1; stack = rest_same s.stack s'.stack same.stack; made = same.made }
   after_same s s' (event.End a e at) (event.End b f at') same is = record { done = same.done; phase = left_same e f is.1; stack = rest_same s.stack s'.stack same.stack; made = same.made }

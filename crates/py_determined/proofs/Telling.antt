@@ -62,9 +62,9 @@ resumed_positive : (plan : Plan) (p : Past) (b : ℕ) → IsPositive p → IsRes
 resumed_positive plan p b n (inl (f, made, last)) = subst (λ m. 0 < m) (sym last) (n.made f made)
 resumed_positive plan p b n (inr (asks, (r, open_, is))) = entering_positive b p.generators r n.generators is
 
-positive_asks : (stack : List Act) (r : Option Request) (own : Option PyBaseExceptionRef) → ArePositive stack → ArePositive (top_asks r own stack)
-positive_asks [] r own are = are
-positive_asks (x ∷ stack) r own are = are
+positive_asks : (stack : List Act) (r : Option Request) (own : Option PyBaseExceptionRef) (at : ℕ) → ArePositive stack → ArePositive (top_asks r own at stack)
+positive_asks [] r own at are = are
+positive_asks (x ∷ stack) r own at are = are
 
 positive_left : (stack : List Act) → ArePositive stack → ArePositive (drop 1 stack)
 positive_left [] are = are
@@ -98,9 +98,9 @@ module _ (plan : Plan) (objects : List Payload) where
     generators = subst OfPositive (sym (entries_running a p.generators)) n.generators;
     made = λ f is. absurd (cc is);
   }
-  positive_after p (event.Ask a r own at) may n = record { stack = positive_asks p.state.stack (Some r) own n.stack; generators = n.generators; made = λ f is. absurd (cc is) }
+  positive_after p (event.Ask a r own at) may n = record { stack = positive_asks p.state.stack (Some r) own at n.stack; generators = n.generators; made = λ f is. absurd (cc is) }
   positive_after p (event.Got a w) may n = record {
-    stack = positive_asks p.state.stack None None n.stack;
+    stack = positive_asks p.state.stack None None 0 n.stack;
     generators = answered_positive (question plan p.state) p.state.phase (length p.state.made) (value_of w) p.generators n.made n.generators;
     made = λ f is. absurd (cc is);
   }

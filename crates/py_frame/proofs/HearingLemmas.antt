@@ -1,5 +1,5 @@
 -- Frames that take an input, and what holds behind a step.
-use Rattle.std.proofs.Common.{◌≡◌, ◌⊎◌, ◌∙◌, ◌++◌, ◌+◌, ◌-◌, ◌<◌, ℕ, List, [], ◌∷◌, inl, inr, Some, refl, sym, ap, subst, length, arith}
+use Rattle.std.proofs.Common.{◌≡◌, ◌⊎◌, ◌∙◌, ◌++◌, ◌+◌, ◌-◌, ◌<◌, ℕ, List, [], ◌∷◌, inl, inr, None, Some, refl, sym, ap, subst, length, arith}
 use Rattle.std.specs.Prelude.{Option, slice_get}
 use Rattle.py_objects.specs.declared.refs.PyBaseExceptionRef.{PyBaseExceptionRef}
 use Rattle.py_objects.specs.declared.payload.Payload.{Payload}
@@ -30,6 +30,7 @@ use Rattle.py_rows.proofs.TypingLemmas.{typed_whole}
 use Rattle.py_rows.proofs.StepLemmas.{steps_fit}
 use Rattle.py_rows.proofs.StandingLemmas.{steps_stand, steps_below}
 use Rattle.py_rows.proofs.GrowingLemmas.{run_grown}
+use Rattle.py_rows.proofs.UnderLemmas.{any_is_under}
 use Rattle.py_frame.specs.Frames.{Framed, setting_of, handed}
 use Rattle.py_frame.specs.Steps.{Expects, GivesBack, IfTold, NamesHandled, events, expected, got_of, heard, hearing, slot_taken, taken, told, unless_ended}
 use Rattle.py_frame.specs.Running.{IsRunning, IsSame, SlotFits, HasTold, IsCut, IsStepped}
@@ -58,12 +59,13 @@ taken_moves objects setting x (input.Throw e) expects = subst IsMoving (sym (not
 taken_moves objects setting x (input.Answer w) expects = subst IsMoving (sym (not_ended objects setting x _ (expect.Heard (got_of w)) (Gets 0 (got_of w)) (expects 0))) tt
 
 -- taking it is a step of the run, or none
-heard_run : (objects : List Payload) (setting : Setting) (s : State) (i : Input) → Expects objects setting s.wants i → (k : ℕ) → Runs objects setting s (events (heard k i)) (waiting (taken i s.wants) s)
-heard_run objects setting s input.Start expects k = on _ none (hearing_step (Resumes k how.Start) (taken input.Start s.wants) (expects k))
-heard_run objects setting s input.Go expects k = none
-heard_run objects setting s (input.Send v) expects k = on _ none (hearing_step (Resumes k (how.Send v)) (taken (input.Send v) s.wants) (expects k))
-heard_run objects setting s (input.Throw e) expects k = on _ none (hearing_step (Resumes k (how.Throw e)) (taken (input.Throw e) s.wants) (expects k))
-heard_run objects setting s (input.Answer w) expects k = on _ none (hearing_step (Gets k (got_of w)) (taken (input.Answer w) s.wants) (expects k))
+heard_run : (objects : List Payload) (names : List (List ℕ)) (code : Annotated) (f : Framed) (s : State) (i : Input) → Expects objects (setting_of names code f) s.wants i
+    → (k : ℕ) → Runs objects (setting_of names code f) s (events (heard k i)) (waiting (taken i s.wants) s)
+heard_run objects names code f s input.Start expects k = on _ none (hearing_step (Resumes k how.Start) (taken input.Start s.wants) (expects k) tt)
+heard_run objects names code f s input.Go expects k = none
+heard_run objects names code f s (input.Send v) expects k = on _ none (hearing_step (Resumes k (how.Send v)) (taken (input.Send v) s.wants) (expects k) tt)
+heard_run objects names code f s (input.Throw e) expects k = on _ none (hearing_step (Resumes k (how.Throw e)) (taken (input.Throw e) s.wants) (expects k) refl)
+heard_run objects names code f s (input.Answer w) expects k = on _ none (hearing_step (Gets k (got_of w)) (taken (input.Answer w) s.wants) (expects k) tt)
 
 -- a slot that is handed in where the frame hasn't begun, or as the frame left it, is the one that it has
 pub slot_same : (slot left : Option PyBaseExceptionRef) (x : Expect) → (x ≡ expect.Start) ⊎ (slot ≡ left) → slot_taken slot x left ≡ slot
@@ -132,7 +134,7 @@ module _ (objects : List Payload) (names : List (List ℕ)) (code : Annotated) w
   -- and hears an event
   event_runs : (f : Framed) (x : Own) (w : Expect) → IsRunning objects names code f → Hears objects (setting_of names code f) f.state.wants x w → HearsBelow (length objects) (x ∷ []) → IsRunning objects names code (record f { state = waiting w f.state })
   event_runs f x w running hears named =
-      let step : Steps objects (setting_of names code f) f.state (x ∷ []) (waiting w f.state) = hearing_step x w hears in
+      let step : Steps objects (setting_of names code f) f.state (x ∷ []) (waiting w f.state) = hearing_step x w hears (any_is_under (handled_in None f.state.blocks) x) in
       record {
         sound = running.sound;
         fits = steps_fit objects names f.scope.globals f.closure code running.sound f.state (x ∷ []) (waiting w f.state) running.fits step;
@@ -204,7 +206,7 @@ module _ (objects objects' : List Payload) (names : List (List ℕ)) (code : Ann
   pub stepped_told : (step : FrameStep) → Expects objects (setting_of names code f) f.state.wants i → HasTold objects' names code took step h → IsSame took h → IsStepped objects' names code slot i f step h
   stepped_told step expects has same =
       let setting : Setting = setting_of names code f in
-      let hears : (k : ℕ) → Runs objects setting (handed slot f.state) (events (heard k i)) took.state = λ k. subst (λ (t : State). Runs objects setting (handed slot f.state) (events (heard k i)) t) heard_there (heard_run objects setting (handed slot f.state) i expects k) in
+      let hears : (k : ℕ) → Runs objects setting (handed slot f.state) (events (heard k i)) took.state = λ k. subst (λ (t : State). Runs objects setting (handed slot f.state) (events (heard k i)) t) heard_there (heard_run objects names code f (handed slot f.state) i expects k) in
       let before : (k : ℕ) → Runs objects' setting (handed slot f.state) (events (heard k i)) took.state = λ k. run_grown objects objects' grows setting (handed slot f.state) took.state (events (heard k i)) (hears k) in
       let behind : Runs objects' setting took.state (events (told (h.state.last - 1) step)) h.state = subst (λ (o : Option Own). Runs objects' setting took.state (events o) h.state) (sym has.told) has.run in
       let whole : (k : ℕ) → Runs objects' setting (handed slot f.state) (events (heard k i) ++ events (told (h.state.last - 1) step)) h.state =

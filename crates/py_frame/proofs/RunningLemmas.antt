@@ -12,6 +12,7 @@ use Rattle.py_objects.specs.declared.scope.Scope.{Scope}
 use Rattle.py_objects.specs.declared.refs.FrameRef.{FrameRef}
 use Rattle.py_objects.specs.Objects.{Obj, AllBelow, numbers}
 use Rattle.py_objects.specs.Growth.{Grows}
+use Rattle.py_objects.specs.Telling.{under_any}
 use Rattle.py_objects.specs.Own.{Own, Asks, Rounds, Yields, Ends}
 use Rattle.py_check.specs.declared.annotated.Annotated.{Annotated}
 use Rattle.py_check.specs.Depths.{deepest}
@@ -165,7 +166,7 @@ module _ (names : List (List ℕ)) (code : Annotated) (sound : IsSound names cod
     settings = ap (setting_with g.closure) silently.same.scope ∙ ap (λ (c : List Obj). setting_with c f.scope) silently.same.closure
       where
         setting_with : List Obj → Scope → Setting
-        setting_with c s = record { code = code.code; names = names; globals = s.globals; closure = c }
+        setting_with c s = record { code = code.code; names = names; globals = s.globals; closure = c; throws_under = under_any }
 
     globals_there : h.scope.globals.number < length objects'
     globals_there = subst (λ (s : Scope). s.globals.number < length objects') (sym same.scope) (omega (arith, silently.globals, length_grown objects objects' grows))

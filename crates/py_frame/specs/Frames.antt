@@ -8,6 +8,7 @@ use Rattle.py_objects.specs.declared.scope.Scope.{Scope}
 use Rattle.py_objects.specs.declared.payload.Payload.{Payload}
 use Rattle.py_objects.specs.declared.payload.Payload.TheVariants as payload
 use Rattle.py_objects.specs.Objects.{Obj, HasPayload}
+use Rattle.py_objects.specs.Telling.{under_any}
 use Rattle.py_objects.specs.Refs.{frame_object}
 use Rattle.py_stack.specs.Stacks.{Stack}
 use Rattle.py_check.specs.declared.annotated.Annotated.{Annotated}
@@ -38,9 +39,9 @@ pub record NamedCode : Type 0 where
 abbrev pub parts : NamedCode → CodeObject
 parts scene = scene.code.code.code
 
--- the setting of a frame's run
+-- the setting of a frame's run, into which exceptions are thrown whatever is handled
 abbrev pub setting_in : PyCode → List (List ℕ) → Framed → Setting
-setting_in code names f = record { code = code; names = names; globals = f.scope.globals; closure = f.closure }
+setting_in code names f = record { code = code; names = names; globals = f.scope.globals; closure = f.closure; throws_under = under_any }
 
 abbrev pub setting_of : List (List ℕ) → Annotated → Framed → Setting
 setting_of names code f = setting_in code.code names f

@@ -15,7 +15,7 @@ use Rattle.py_objects.specs.declared.event.ResumeHow.{ResumeHow}
 use Rattle.py_objects.specs.declared.event.ResumeHow.TheVariants as how
 use Rattle.py_objects.specs.Objects.{Obj, HasPayload}
 use Rattle.py_objects.specs.Own.{Own, Resumes, Gets, Yields}
-use Rattle.py_objects.specs.Telling.{Given, Stopped, AfterValue, Answers, Answered, GoesOn, Resumed}
+use Rattle.py_objects.specs.Telling.{ThrowTest, Given, Stopped, AfterValue, Answers, Answered, GoesOn, Resumed}
 use Rattle.py_check.specs.declared.note.Kind.TheVariants as kind
 use Rattle.py_rows.specs.declared.block.Block.{Block}
 use Rattle.py_rows.specs.declared.block.UnwindReason.TheVariants as reason
@@ -29,7 +29,7 @@ use Rattle.py_rows.specs.Unwinding.{unwind, unwinds}
 use Rattle.py_rows.specs.Answers.{IsValue, IsAnswer, wanted}
 use Rattle.py_rows.specs.Rows.{asks, act}
 use Rattle.py_rows.specs.Receiving.{answered, unit_answered}
-use Rattle.py_rows.specs.RunOfRows.{Hears, IsExit}
+use Rattle.py_rows.specs.RunOfRows.{Hears, IsUnder, IsExit}
 use Rattle.py_tree.specs.Binding.{Env}
 use Rattle.py_tree.specs.Outcome.{Raises, Requests, Suspends}
 use Rattle.py_laid.specs.Code.{Around, Scope, Stands}
@@ -49,10 +49,11 @@ resumption (got.Value v) = how.Send v
 resumption (got.Raise e) = how.Throw e
 resumption (got.Stop v) = how.Start
 
-goes_on : (g : GotAnswer) (event : ℕ) (ts : List Own) (K : AfterValue) → Answers g event ts K → GoesOn (resumption g) event ts K
-goes_on (got.Value v) event ts K k = k
-goes_on (got.Raise e) event ts K k = k
-goes_on (got.Stop v) event ts K k = absurd k
+goes_on : (throws : ThrowTest) (h : Option PyBaseExceptionRef) (g : GotAnswer) (event : ℕ) (ts : List Own) (K : AfterValue)
+    → IsUnder throws h (Resumes event (resumption g)) → Answers g event ts K → GoesOn (λ i. throws i h) (resumption g) event ts K
+goes_on throws h (got.Value v) event ts K under k = k
+goes_on throws h (got.Raise e) event ts K under k = (under, k)
+goes_on throws h (got.Stop v) event ts K under k = absurd k
 
 -- what a frame hears that yielded
 resumed : (objects : List Payload) (setting : Setting) (x : Own) (y : Expect) → Hears objects setting expect.Resume x y
@@ -90,36 +91,41 @@ module _ (ex : Execution) where
             (subst (λ (i : ℕ). Left ex m (answered op i v asker) us) is_arg
             (subst (λ (o : Instruction). Left ex m (answered o (with_byte p u.arg) v asker) us) is_op
             (subst (λ (o : Option CodeUnit). Left ex m (unit_answered o v asker) us) here move)))
-        heard_run (got.Value v) (suc m) event us less value (inr (x, w, mid, never, is, run)) = absurd never
+        heard_run (got.Value v) (suc m) event us less value (inr (x, w, mid, never, under, is, run)) = absurd never
         heard_run (got.Raise e) zero event us less exception run = passes.failed e event us (subst (λ (l : List Own). c.K env (Raises e) event l) (sym run) (c.lands.pauses env (Raises e) event tt))
         heard_run (got.Raise e) (suc m) event us less exception (inl move) =
             passes.failed e event us
             (c.lands.unwinds (reason.Raising e) extra k p now m event us tt tt low high (omega (arith, less, most)) same
             (unwinds_left (reason.Raising e) k p (extra ++ c.base) c.blocks now m us (step_left ex m (unwinds (reason.Raising e) asker) us move)))
-        heard_run (got.Raise e) (suc m) event us less exception (inr (x, w, mid, never, is, run)) = absurd never
+        heard_run (got.Raise e) (suc m) event us less exception (inr (x, w, mid, never, under, is, run)) = absurd never
         heard_run (got.Stop v) m event us less never run = absurd never
 
         -- the answer is heard, unless the run ends in front of it
         answered_run : (m event : ℕ) (us : List Own) → m < n → Told ex m (waiting (expect.Answer wants) asker) us → Answered event us V
         answered_run zero event us less run = inl (run, passes.stopped event)
         answered_run (suc m) event us less (inl stuck) = absurd (step_left ex m Stuck us stuck)
-        answered_run (suc m) event us less (inr (x, w, mid, hears, is, run)) =
+        answered_run (suc m) event us less (inr (x, w, mid, hears, under, is, run)) =
             let (number, g, is_got, answer, is_heard) = heard ex.objects (setting_of ex) wants x w hears in
             inr (number, g, mid, is ∙ ap (λ (y : Own). y ∷ mid) is_got, heard_run g m number mid (omega (arith, less)) answer (subst (λ (y : Expect). Told ex m (waiting y asker) mid) is_heard run))
 
+        -- what is handled meanwhile
+        abbrev handled_now : Option PyBaseExceptionRef
+        handled_now = handled_in None c.blocks
+
         -- so is what a frame goes on with that yielded
-        resumed_run : wants ≡ want.Of kind.Any → (m event : ℕ) (us : List Own) → m < n → Told ex m (waiting expect.Resume asker) us → Resumed event us V
+        resumed_run : wants ≡ want.Of kind.Any → (m event : ℕ) (us : List Own) → m < n → Told ex m (waiting expect.Resume asker) us → Resumed (λ i. ex.throws i handled_now) event us V
         resumed_run any zero event us less run = inl (run, passes.stopped event)
         resumed_run any (suc m) event us less (inl stuck) = absurd (step_left ex m Stuck us stuck)
-        resumed_run any (suc m) event us less (inr (x, w, mid, hears, is, run)) =
+        resumed_run any (suc m) event us less (inr (x, w, mid, hears, under, is, run)) =
             let (number, g, is_resumed, answer, is_heard) = resumed ex.objects (setting_of ex) x w hears in
             let wanted_so : IsAnswer ex.objects wants g = subst (λ (v : Wanted). IsAnswer ex.objects v g) (sym any) answer in
+            let under_it : IsUnder ex.throws handled_now (Resumes number (resumption g)) = subst (IsUnder ex.throws handled_now) is_resumed under in
             inr (
               number,
               resumption g,
               mid,
               is ∙ ap (λ (y : Own). y ∷ mid) is_resumed,
-              goes_on g number mid V (heard_run g m number mid (omega (arith, less)) wanted_so (subst (λ (y : Expect). Told ex m (waiting y asker) mid) is_heard run)),
+              goes_on ex.throws handled_now g number mid V under_it (heard_run g m number mid (omega (arith, less)) wanted_so (subst (λ (y : Expect). Told ex m (waiting y asker) mid) is_heard run)),
             )
 
       -- a unit that asks by what it calls, and hears its answer, which leads behind it, with these values
@@ -236,7 +242,7 @@ module _ (ex : Execution) where
       pub yields_run : {scope : Scope} {line at to : ℕ} → Stands (parts_of ex) scope line at YieldValue 0 to → (v : Obj) (extra : List Obj) (last n event : ℕ) (ts : List Own)
           → n ≤ c.limit → c.low ≤ at → to ≤ c.high → From ex n at last (v ∷ extra ++ c.base) c.blocks now ts → ((u : Obj) (i : ℕ) → V (Given u) i [])
           → ((u : Obj) (m i : ℕ) (us : List Own) → m < n → From ex m to to (u ∷ extra ++ c.base) c.blocks now us → V (Given u) i us)
-          → Suspends (scene_of ex) line v event ts V
+          → Suspends (scene_of ex) line v (handled_in None c.blocks) event ts V
       yields_run {line = line} {to = to} stands v extra last n event ts most low high run stops later =
           stands_run ex stands (λ k p b. Plainly (Tells (Yields k v) (waiting expect.Resume (begun k p (extra ++ c.base) c.blocks now)))) (v ∷ extra ++ c.base) c.blocks now last n ts (λ k p. refl) run
           (λ none. inl (none, passes.stopped event))

@@ -11,6 +11,7 @@ use Rattle.py_objects.specs.declared.refs.PyBaseExceptionRef.{PyBaseExceptionRef
 use Rattle.py_objects.specs.declared.payload.Payload.{Payload}
 use Rattle.py_objects.specs.Objects.{Obj}
 use Rattle.py_objects.specs.Own.{Own}
+use Rattle.py_objects.specs.Telling.{ThrowTest}
 use Rattle.py_check.specs.declared.annotated.Annotated.{Annotated}
 use Rattle.py_rows.specs.declared.block.Block.{Block}
 use Rattle.py_rows.specs.declared.expect.Expect.TheVariants as expect
@@ -44,13 +45,14 @@ begun k prefix stack blocks now = running k (suc k) prefix stack blocks now
 abbrev pub HasOp : Setting → (k prefix : ℕ) → Instruction → ℕ → Type 0
 HasOp setting k prefix op arg = (u : CodeUnit) × (slice_get setting.code.code.instructions.items k ≡ Some u) × (u.op ≡ op) × (with_byte prefix u.arg ≡ arg)
 
--- a code that runs, with what its units refer to, and the names of its globals and locals
+-- a code that runs, with what its units refer to, the test by which exceptions are thrown in, and the names of its globals and locals
 pub record Execution : Type 0 where
   pub objects : List Payload
   pub code : Annotated
   pub table : List (List ℕ)
   pub dict : Obj
   pub closure : List Obj
+  pub throws : ThrowTest
   pub globals : List Name
   pub vars : List Name
   pub locals_named : NamesAll table code.code.code.varnames.items vars
@@ -58,7 +60,7 @@ pub record Execution : Type 0 where
 
 module _ (ex : Execution) where
   abbrev pub setting_of : Setting
-  setting_of = record { code = ex.code.code; names = ex.table; globals = ex.dict; closure = ex.closure }
+  setting_of = record { code = ex.code.code; names = ex.table; globals = ex.dict; closure = ex.closure; throws_under = ex.throws }
 
   abbrev units : List CodeUnit
   units = ex.code.code.code.instructions.items
@@ -67,7 +69,7 @@ module _ (ex : Execution) where
   parts_of = parts_with ex.globals ex.vars ex.code
 
   abbrev pub scene_of : Scene
-  scene_of = located ex.code.code ex.objects ex.dict
+  scene_of = located ex.code.code ex.objects ex.dict ex.throws
 
   -- a run of so many steps has told this
   abbrev pub Told : ℕ → State → List Own → Type 0
@@ -96,7 +98,7 @@ module _ (ex : Execution) where
   -- a frame that runs hears nothing
   unit_left : (n : ℕ) (s : State) (ts : List Own) → Told (suc n) (record s { wants = expect.Go }) ts → Left n (advance setting_of (record s { wants = expect.Go })) ts
   unit_left n s ts (inl left) = left
-  unit_left n s ts (inr (x, w, mid, never, is, run)) = absurd never
+  unit_left n s ts (inr (x, w, mid, never, under, is, run)) = absurd never
 
   -- what the unit that is reached, in fewer steps, leaves
   abbrev Reached : Type 0 → Instruction → (arg at next : ℕ) → List Obj → List Block → Now → ℕ → List Own → Type 0

@@ -21,7 +21,7 @@ laid_code_fits table globals code t laid plain named = let typed = laid_code_is_
     };
   };
   typed = typed.0;
-  traces = λ grown dict closure objects slot args ts s grows same run.
-      runs_are_traces globals code t grown dict closure objects slot args ts s laid (NamesAll-grown table grown _ globals grows named.names)
+  traces = λ grown dict closure objects throws slot args ts s grows same run.
+      runs_are_traces globals code t grown dict closure objects throws slot args ts s laid (NamesAll-grown table grown _ globals grows named.names)
       (NamesAll-grown table grown _ (locals_of t) grows named.varnames) same run;
 }

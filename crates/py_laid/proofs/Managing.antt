@@ -81,13 +81,13 @@ module _ (ex : Execution) where
   told_anew : (phase n : ℕ) (s : State) (ts : List Own) → Told ex n (phased phase s) ts → Told ex n (phased 0 s) ts
   told_anew phase zero s ts run = run
   told_anew phase (suc n) s ts (inl move) = inl (subst (λ (moved : Move). Left ex n moved ts) (unit_anew phase (slice_get ex.code.code.code.instructions.items s.at) s) move)
-  told_anew phase (suc n) s ts (inr (x, w, mid, never, is, run)) = absurd never
+  told_anew phase (suc n) s ts (inr (x, w, mid, never, under, is, run)) = absurd never
 
   -- an ended one tells nothing
   ended_anew : (phase n : ℕ) (s : State) (ts : List Own) → Told ex n (waiting expect.Ended (phased phase s)) ts → Told ex n (waiting expect.Ended (phased 0 s)) ts
   ended_anew phase zero s ts run = run
   ended_anew phase (suc n) s ts (inl stuck) = absurd (step_left ex n Stuck ts stuck)
-  ended_anew phase (suc n) s ts (inr (x, w, mid, never, is, run)) = absurd never
+  ended_anew phase (suc n) s ts (inr (x, w, mid, never, under, is, run)) = absurd never
 
   jumps_anew : (phase n to : ℕ) (s : State) (ts : List Own) → Behind ex n (jumps to (phased phase s)) ts → Behind ex n (jumps to (phased 0 s)) ts
   jumps_anew phase n to s ts step = by (nat_lt s.at to) step
@@ -340,12 +340,12 @@ module _ (ex : Execution) where
         c.lands.unwinds (reason.Raising e) (m ∷ []) k p now n event us tt tt below above (omega (arith, less)) same
         (raise_anew e 1 n c.blocks (begun k p (m ∷ c.base) c.blocks now) us
         (unwinds_phased e n (begun k p (m ∷ c.base) c.blocks now) us (step_left ex n (unwinds (reason.Raising e) asker) us move)))
-    raises_run (got.Raise e) (suc n) event us less exception (inr (x, w, mid, never, is, run)) = absurd never
+    raises_run (got.Raise e) (suc n) event us less exception (inr (x, w, mid, never, under, is, run)) = absurd never
 
     no_exit_run : (n event : ℕ) (us : List Own) → n < c.limit → Told ex n (waiting (expect.Answer want.NoValue) asker) us → Answered event us (Use env c.K (λ u i mid. ⊥))
     no_exit_run zero event us less run = inl (run, c.lands.pauses env Cut event tt)
     no_exit_run (suc n) event us less (inl stuck) = absurd (step_left ex n Stuck us stuck)
-    no_exit_run (suc n) event us less (inr (x, w, mid, hears, is, run)) =
+    no_exit_run (suc n) event us less (inr (x, w, mid, hears, under, is, run)) =
         let (number, g, is_got, answer, is_heard) = heard ex.objects (setting_of ex) want.NoValue x w hears in
         inr (number, g, mid, is ∙ ap (λ (y : Own). y ∷ mid) is_got, raises_run g n number mid (omega (arith, less)) answer (subst (λ (y : Expect). Told ex n (waiting y asker) mid) is_heard run))
 

@@ -12,6 +12,7 @@ use Rattle.py_objects.specs.declared.event.GotAnswer.TheVariants as got
 use Rattle.py_objects.specs.declared.event.Ending.TheVariants as ending
 use Rattle.py_objects.specs.Objects.{Obj}
 use Rattle.py_objects.specs.Own.{Own, Resumes, Ends}
+use Rattle.py_objects.specs.Telling.{ThrowTest}
 use Rattle.py_check.specs.declared.annotated.Annotated.{Annotated}
 use Rattle.py_rows.specs.declared.block.UnwindReason.{UnwindReason}
 use Rattle.py_rows.specs.declared.block.UnwindReason.TheVariants as reason
@@ -19,7 +20,7 @@ use Rattle.py_rows.specs.declared.expect.Expect.{Expect}
 use Rattle.py_rows.specs.declared.expect.Expect.TheVariants as expect
 use Rattle.py_rows.specs.States.{State, Stuck, waiting}
 use Rattle.py_rows.specs.Unwinding.{unwind, unwinds}
-use Rattle.py_rows.specs.RunOfRows.{Hears, filled, started}
+use Rattle.py_rows.specs.RunOfRows.{Hears, IsUnder, filled, started}
 use Rattle.py_rows.specs.Signature.{kind_by}
 use Rattle.py_code.specs.declared.flags.TheConstants.CodeFlags.{IS_GENERATOR, IS_COROUTINE}
 use Rattle.py_check.specs.WholeCode.{counts_if}
@@ -54,7 +55,7 @@ module _ (ex : Execution) where
   ended_run : (n : ℕ) (s : State) (ts : List Own) → Told ex n (waiting expect.Ended s) ts → ts ≡ []
   ended_run zero s ts run = run
   ended_run (suc n) s ts (inl stuck) = absurd (step_left ex n Stuck ts stuck)
-  ended_run (suc n) s ts (inr (x, w, mid, never, is, run)) = absurd never
+  ended_run (suc n) s ts (inr (x, w, mid, never, under, is, run)) = absurd never
 
   -- the end of a body
   end_pauses : (env : Env) (o : Outcome) (event : ℕ) → May None o → EndsBy (scene_of ex) env o event []
@@ -96,10 +97,10 @@ module _ (ex : Execution) where
       (λ none. inl none)
       (λ v k q j from is_next less has step. inr (v, has, end_unwinds (reason.Returning v) [] k q now j event ts tt (unwinds_left ex (reason.Returning v) k q [] [] now j ts step)))
 
-module _ (globals : List Name) (code : Annotated) (t : Tree) (table : List (List ℕ)) (dict : Obj) (closure : List Obj) (objects : List Payload) (laid : IsLaid globals code t)
+module _ (globals : List Name) (code : Annotated) (t : Tree) (table : List (List ℕ)) (dict : Obj) (closure : List Obj) (objects : List Payload) (throws : ThrowTest) (laid : IsLaid globals code t)
     (globals_named : NamesAll table code.code.code.names.items globals) (locals_named : NamesAll table code.code.code.varnames.items (locals_of t)) where
   abbrev ex : Execution
-  ex = record { objects = objects; code = code; table = table; dict = dict; closure = closure; globals = globals; vars = locals_of t; locals_named = locals_named; globals_named = globals_named }
+  ex = record { objects = objects; code = code; table = table; dict = dict; closure = closure; throws = throws; globals = globals; vars = locals_of t; locals_named = locals_named; globals_named = globals_named }
 
   -- where the frame has started
   suite_told : (slot : Option PyBaseExceptionRef) (args : List Obj) (n event : ℕ) (ts : List Own) → Told ex n (waiting expect.Go (started code.code slot args)) ts
@@ -120,27 +121,28 @@ module _ (globals : List Name) (code : Annotated) (t : Tree) (table : List (List
   thrown_told slot args e (suc n) ts (inl move) =
       let (mid, is, rest) = step_left ex n (unwinds (reason.Raising e) (waiting expect.Go (started code.code slot args))) ts move in
       inr (0, is ∙ ap (λ (us : List Own). Ends 0 (ending.Raise e) ∷ us) (ended_run ex n (waiting expect.Go (started code.code slot args)) mid rest))
-  thrown_told slot args e (suc n) ts (inr (x, w, mid, never, is, run)) = absurd never
+  thrown_told slot args e (suc n) ts (inr (x, w, mid, never, under, is, run)) = absurd never
 
   -- a frame that hasn't begun starts, or ends by what is thrown in
   entered_told : (slot : Option PyBaseExceptionRef) (args : List Obj) (n : ℕ) (x : Own) (y : Expect) (ts : List Own) → Hears objects (setting_of ex) expect.Start x y
-      → Told ex n (waiting y (started code.code slot args)) ts → IsBegun (scene_of ex) t args (x ∷ ts)
-  entered_told slot args n (Resumes event how.Start) y ts is run =
+      → IsUnder throws None x → Told ex n (waiting y (started code.code slot args)) ts → IsBegun (scene_of ex) t args (x ∷ ts)
+  entered_told slot args n (Resumes event how.Start) y ts is under run =
       suite_told slot args n event ts (subst (λ (z : Expect). Told ex n (waiting z (started code.code slot args)) ts) is run)
-  entered_told slot args n (Resumes event (how.Throw e)) y ts (exception, is, thrown) run = (
+  entered_told slot args n (Resumes event (how.Throw e)) y ts (exception, is, thrown) under run = (
     thrown_kind (counts_if code.code.code.flags IS_GENERATOR == 1) (counts_if code.code.code.flags IS_COROUTINE == 1) t.kind laid.kind thrown,
+    under,
     thrown_told slot args e n ts (subst (λ (z : Expect). Told ex n (waiting z (started code.code slot args)) ts) is run),
   )
-  entered_told slot args n _ y ts never run = absurd never
+  entered_told slot args n _ y ts never under run = absurd never
 
   -- a run of the code has told a beginning of what the body tells
   begun_run : (slot : Option PyBaseExceptionRef) (args : List Obj) (n : ℕ) (ts : List Own) → Told ex n (started code.code slot args) ts → IsBegun (scene_of ex) t args ts
   begun_run slot args zero ts none = subst (IsBegun (scene_of ex) t args) (sym none) tt
   begun_run slot args (suc n) ts (inl stuck) = absurd (step_left ex n Stuck ts stuck)
-  begun_run slot args (suc n) ts (inr (x, w, mid, hears, is, run)) = subst (IsBegun (scene_of ex) t args) (sym is) (entered_told slot args n x w mid hears run)
+  begun_run slot args (suc n) ts (inr (x, w, mid, hears, under, is, run)) = subst (IsBegun (scene_of ex) t args) (sym is) (entered_told slot args n x w mid hears under run)
 
 -- each run of the rows, whole or cut, is a trace in which each unit asks for a statement of its line
 pub runs_are_traces : RunsAreTraces
-runs_are_traces globals code t table dict closure objects slot args ts s laid globals_named locals_named same run =
-    let (n, told) = run_steps objects (record { code = code.code; names = table; globals = dict; closure = closure }) (started code.code slot args) s ts run in
-    (same, (ts, refl, begun_run globals code t table dict closure objects laid globals_named locals_named slot args n ts told))
+runs_are_traces globals code t table dict closure objects throws slot args ts s laid globals_named locals_named same run =
+    let (n, told) = run_steps objects (record { code = code.code; names = table; globals = dict; closure = closure; throws_under = throws }) (started code.code slot args) s ts run in
+    (same, (ts, refl, begun_run globals code t table dict closure objects throws laid globals_named locals_named slot args n ts told))

@@ -6,6 +6,7 @@ use Rattle.py_objects.specs.declared.payload.Payload.{Payload}
 use Rattle.py_objects.specs.Objects.{Obj}
 use Rattle.py_objects.specs.declared.request.Request.{Request}
 use Rattle.py_objects.specs.Own.{Own, Makes, Asks}
+use Rattle.py_objects.specs.Telling.{ThrowTest}
 use Rattle.py_check.specs.declared.annotated.Annotated.{Annotated}
 use Rattle.py_check.specs.Sheet.{sheet_of}
 use Rattle.py_check.specs.Typing.{IsTyped}
@@ -22,13 +23,15 @@ use Rattle.py_laid.specs.Naming.{NamesAll, IsNamed}
 
 -- each run of laid code, whole or cut, from any arguments, as many as there are parameters, with any closure, whatever the slot holds
 -- at first, however its frame is entered and whatever answers of the wanted kinds come, is a trace of its tree behind the making of
--- its activation, in which each unit asks and yields for a statement of its line
+-- its activation, in which each unit asks and yields for a statement of its line, and what is thrown in comes while the tree handles what
+-- the frame's blocks do
 abbrev pub RunsAreTraces : Type 0
 RunsAreTraces = (globals : List Name) (code : Annotated) (t : Tree) (table : List (List ℕ)) (dict : Obj) (closure : List Obj) (objects : List Payload)
-    (slot : Option PyBaseExceptionRef) (args : List Obj) (ts : List Own) (s : State)
+    (throws : ThrowTest) (slot : Option PyBaseExceptionRef) (args : List Obj) (ts : List Own) (s : State)
     → IsLaid globals code t → NamesAll table code.code.code.names.items globals → NamesAll table code.code.code.varnames.items (locals_of t)
     → length args ≡ length t.params
-    → Runs objects (record { code = code.code; names = table; globals = dict; closure = closure }) (started code.code slot args) ts s → IsTrace (located code.code objects dict) t args (Makes ∷ ts)
+    → Runs objects (record { code = code.code; names = table; globals = dict; closure = closure; throws_under = throws }) (started code.code slot args) ts s
+    → IsTrace (located code.code objects dict throws) t args (Makes ∷ ts)
 
 -- laid code that is plain keeps the typing rules with its notes, behind whatever codes, and each of its units runs
 abbrev pub LaidCodeIsTyped : Type 0

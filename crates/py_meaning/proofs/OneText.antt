@@ -254,9 +254,9 @@ module _ (store : List Payload) (globals : Obj) (journal : List Event) (qs : Lis
   abbrev at : ℕ → Phase → List Act → List Activation → State
   at count phase stack made = record { done = count; phase = phase; stack = stack; made = made }
 
-  -- the first activation, which asks this
-  abbrev act : Option Request → Act
-  act r = record { number = 1; asks = r; own = None }
+  -- the first activation, which asks this by a unit
+  abbrev act : Option Request → ℕ → Act
+  act r unit = record { number = 1; asks = r; own = None; at = unit }
 
   -- these events may follow, and one drive is done then; in the lemmas on what stands behind an event, its own ones have the numbers
   -- that they have in the journal: the drive 0, and so on
@@ -289,16 +289,16 @@ module _ (store : List Payload) (globals : Obj) (journal : List Event) (qs : Lis
       subst (λ (y : Event). plain_text store (y ∷ es) ≡ result_text store 1 (answer_of x)) (sym is)
       (subst (λ (ys : List Event). plain_text store (event.Result 1 (answer_of x) ∷ ys) ≡ result_text store 1 (answer_of x)) (sym none) (append-nil (result_text store 1 (answer_of x))))
 
-  end_behind : (x : Ending) (made : List Activation) (before es : List Event) → AreCalls → Ended x (own_from 1 5 es) → Follows before (at 0 Going (act None ∷ []) made) es → plain_text store es ≡ result_text store 1 (answer_of x)
+  end_behind : (x : Ending) (made : List Activation) (before es : List Event) → AreCalls → Ended x (own_from 1 5 es) → Follows before (at 0 Going (act None 0 ∷ []) made) es → plain_text store es ≡ result_text store 1 (answer_of x)
   end_behind x made before [] asked t h = absurd (cc h.1)
   end_behind x made before (e ∷ es) asked t h =
-      let c = going_next before (at 0 Going (act None ∷ []) made) 5 e refl h.0.0 in
+      let c = going_next before (at 0 Going (act None 0 ∷ []) made) 5 e refl h.0.0 in
       let own = told 5 e c.1.0 es c.0 c.1.1 in
       ⊎_elim (λ none. absurd cc)
       (λ some.
       let which : own_of 5 e ≡ Ends some.0 x ∷ [] = cc in
       let is : e ≡ event.End 1 x some.0 = ends_of 5 e some.0 x which ∙ ap (λ (k : ℕ). event.End k x some.0) (sym c.0) in
-      subst (λ (y : Event). Follows before (at 0 Going (act None ∷ []) made) (y ∷ es) → plain_text store (y ∷ es) ≡ result_text store 1 (answer_of x)) (sym is)
+      subst (λ (y : Event). Follows before (at 0 Going (act None 0 ∷ []) made) (y ∷ es) → plain_text store (y ∷ es) ≡ result_text store 1 (answer_of x)) (sym is)
       (λ k. result_behind x made _ es asked (k.0.1, k.1)) h)
       t
 
@@ -318,28 +318,28 @@ module _ (store : List Payload) (globals : Obj) (journal : List Event) (qs : Lis
   abbrev AreNumbers : Obj → Obj → Type 0
   AreNumbers a b = HasPayload store a (payload.Int m) × HasPayload store b (payload.Int n)
 
-  answer_behind : (a b : Obj) (K : AfterValue) (made : List Activation) (before es : List Event) → AreNumbers a b → AreCalls → EndsIt K → Answered 2 (own_from 1 4 es) K → Follows before (at 0 Asking (act (Some (Binary binary.Add a b)) ∷ []) made) es → plain_text store es ≡ line
+  answer_behind : (unit : ℕ) (a b : Obj) (K : AfterValue) (made : List Activation) (before es : List Event) → AreNumbers a b → AreCalls → EndsIt K → Answered 2 (own_from 1 4 es) K → Follows before (at 0 Asking (act (Some (Binary binary.Add a b)) unit ∷ []) made) es → plain_text store es ≡ line
   unfolding own_from told_by
-  answer_behind a b K made before [] ab asked k t h = absurd (cc h.1)
-  answer_behind a b K made before (e ∷ es) ab asked k t h =
-      let c = got_next before (at 0 Asking (act (Some (Binary binary.Add a b)) ∷ []) made) e (act (Some (Binary binary.Add a b))) a b refl refl refl h.0.0 in
-      let sum = given before c.0 (gives_sum plan store (past before (at 0 Asking (act (Some (Binary binary.Add a b)) ∷ []) made)) a b m n c.0 ab.0 ab.1 c.3) in
+  answer_behind unit a b K made before [] ab asked k t h = absurd (cc h.1)
+  answer_behind unit a b K made before (e ∷ es) ab asked k t h =
+      let c = got_next before (at 0 Asking (act (Some (Binary binary.Add a b)) unit ∷ []) made) e (act (Some (Binary binary.Add a b)) unit) a b refl refl refl h.0.0 in
+      let sum = given before c.0 (gives_sum plan store (past before (at 0 Asking (act (Some (Binary binary.Add a b)) unit ∷ []) made)) a b m n c.0 ab.0 ab.1 c.3) in
       let is : e ≡ event.Got 1 c.0 = c.1 ∙ ap (λ (k : ℕ). event.Got k c.0) (sym c.2) in
-      subst (λ (x : Event). Answered 2 (own_from 1 4 (x ∷ es)) K → Follows before (at 0 Asking (act (Some (Binary binary.Add a b)) ∷ []) made) (x ∷ es) → plain_text store (x ∷ es) ≡ line) (sym is)
+      subst (λ (x : Event). Answered 2 (own_from 1 4 (x ∷ es)) K → Follows before (at 0 Asking (act (Some (Binary binary.Add a b)) unit ∷ []) made) (x ∷ es) → plain_text store (x ∷ es) ≡ line) (sym is)
       (λ u l. end_behind sum.0 made _ es asked (sum.1 (own_from 1 5 es) (got_it K k c.0 (own_from 1 5 es) u)) (l.0.1, l.1) ∙ sum.2) t h
 
-  question_behind : (units : ℕ → Bool) (a b : Obj) (K : AfterValue) (made : List Activation) (before es : List Event) → AreNumbers a b → AreCalls → EndsIt K → Asked units (Binary binary.Add a b) None 2 (own_from 1 3 es) K → Follows before (at 0 Going (act None ∷ []) made) es → plain_text store es ≡ line
+  question_behind : (units : ℕ → Bool) (a b : Obj) (K : AfterValue) (made : List Activation) (before es : List Event) → AreNumbers a b → AreCalls → EndsIt K → Asked units (Binary binary.Add a b) None 2 (own_from 1 3 es) K → Follows before (at 0 Going (act None 0 ∷ []) made) es → plain_text store es ≡ line
   question_behind units a b K made before [] ab asked k t h = absurd (cc h.1)
   question_behind units a b K made before (e ∷ es) ab asked k t h =
-      let c = going_next before (at 0 Going (act None ∷ []) made) 3 e refl h.0.0 in
+      let c = going_next before (at 0 Going (act None 0 ∷ []) made) 3 e refl h.0.0 in
       let own = told 3 e c.1.0 es c.0 c.1.1 in
       ⊎_elim (λ none. let empty = none.0 in absurd cc)
       (λ some.
       let which : own_of 3 e ≡ Asks some.0 (Binary binary.Add a b) None ∷ [] = cc in
       let rest : some.1 ≡ own_from 1 4 es = cc in
       let is : e ≡ event.Ask 1 (Binary binary.Add a b) None some.0 = asks_of 3 e some.0 (Binary binary.Add a b) None which ∙ ap (λ (k : ℕ). event.Ask k (Binary binary.Add a b) None some.0) (sym c.0) in
-      subst (λ (x : Event). Follows before (at 0 Going (act None ∷ []) made) (x ∷ es) → plain_text store (x ∷ es) ≡ line) (sym is)
-      (λ l. answer_behind a b K made _ es ab asked k (subst (λ (xs : List Own). Answered 2 xs K) rest some.4) (l.0.1, l.1)) h)
+      subst (λ (x : Event). Follows before (at 0 Going (act None 0 ∷ []) made) (x ∷ es) → plain_text store (x ∷ es) ≡ line) (sym is)
+      (λ l. answer_behind some.0 a b K made _ es ab asked k (subst (λ (xs : List Own). Answered 2 xs K) rest some.4) (l.0.1, l.1)) h)
       t
 
   entry_behind : (f a b : Obj) (before es : List Event) → AreNumbers a b → AreCalls → IsBegun (anywhere store globals) function (a ∷ b ∷ []) (own_from 1 2 es) → Follows before (at 0 (Made f) [] (record { function = f; args = a ∷ b ∷ [] } ∷ [])) es → plain_text store es ≡ line

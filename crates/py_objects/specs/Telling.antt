@@ -41,20 +41,31 @@ abbrev pub Asked : (ℕ → Bool) → Request → Option PyBaseExceptionRef → 
 Asked units r h event ts K =
     ((ts ≡ []) × K Stopped event []) ⊎ ((at : ℕ) × (mid : List Own) × (units at ≡ true) × (ts ≡ Asks at r h ∷ mid) × Answered event mid K)
 
--- a body that yielded goes on with what was sent as a value, or with what was thrown in as a raise; it doesn't start again
-abbrev pub GoesOn : ResumeHow → ℕ → List Own → AfterValue → Type 0
-GoesOn how.Start event ts K = ⊥
-GoesOn (how.Send v) event ts K = K (Given v) event ts
-GoesOn (how.Throw e) event ts K = K (Failed e) event ts
+-- whether the event of a number may throw an exception in while this is handled
+abbrev pub ThrowTest : Type 0
+ThrowTest = (event : ℕ) → Option PyBaseExceptionRef → Bool
+
+-- any event may, whatever is handled
+abbrev pub under_any : ThrowTest
+under_any event h = true
+
+-- a body that yielded goes on with what was sent as a value, or with what was thrown in as a raise, where the event of this number may
+-- throw; it doesn't start again
+abbrev pub GoesOn : (ℕ → Bool) → ResumeHow → ℕ → List Own → AfterValue → Type 0
+GoesOn throws how.Start event ts K = ⊥
+GoesOn throws (how.Send v) event ts K = K (Given v) event ts
+GoesOn throws (how.Throw e) event ts K = (throws event ≡ true) × K (Failed e) event ts
 
 -- how it goes on, by an event with a number of its own, or the end of what is told
-abbrev pub Resumed : ℕ → List Own → AfterValue → Type 0
-Resumed event ts K = ((ts ≡ []) × K Stopped event []) ⊎ ((i : ℕ) × (w : ResumeHow) × (mid : List Own) × (ts ≡ Resumes i w ∷ mid) × GoesOn w i mid K)
+abbrev pub Resumed : (ℕ → Bool) → ℕ → List Own → AfterValue → Type 0
+Resumed throws event ts K =
+    ((ts ≡ []) × K Stopped event []) ⊎ ((i : ℕ) × (w : ResumeHow) × (mid : List Own) × (ts ≡ Resumes i w ∷ mid) × GoesOn throws w i mid K)
 
--- a yield of a value, from one of these units, and how the body goes on (Python Language Reference, 6.2.9)
-abbrev pub Yielded : (ℕ → Bool) → Obj → ℕ → List Own → AfterValue → Type 0
-Yielded units v event ts K =
-    ((ts ≡ []) × K Stopped event []) ⊎ ((at : ℕ) × (mid : List Own) × (units at ≡ true) × (ts ≡ Yields at v ∷ mid) × Resumed event mid K)
+-- a yield of a value, from one of these units, and how the body goes on, into which these events may throw (Python Language Reference,
+-- 6.2.9)
+abbrev pub Yielded : (units throws : ℕ → Bool) → Obj → ℕ → List Own → AfterValue → Type 0
+Yielded units throws v event ts K =
+    ((ts ≡ []) × K Stopped event []) ⊎ ((at : ℕ) × (mid : List Own) × (units at ≡ true) × (ts ≡ Yields at v ∷ mid) × Resumed throws event mid K)
 
 -- a round of a loop, or the end of what is told
 abbrev pub Rounded : List Own → Type 0 → (List Own → Type 0) → Type 0

@@ -1,6 +1,6 @@
 //! The attributes of an object.
 
-ghost use Rattle.std.specs.Prelude.{◌≡◌, ◌==◌, [], length, IfOk, OnOk, OnErr};
+ghost use Rattle.std.specs.Prelude.{◌≡◌, ◌==◌, ◌<◌, [], length, slice_get, Some, IfOk, OnOk, OnErr};
 ghost use Rattle.py_objects.specs.Attrs.{inserted, without, value_of};
 
 use crate::refs::PyObjectRef;
@@ -65,6 +65,17 @@ impl AttrMap {
         self.entries.get(name.as_slice()).copied()
     }
 
+    /// The attribute at a place, from 0: its name, as a text of its own, and its value.
+    pub fn at(&self, place: usize) -> Result<(PyText, PyObjectRef), NoMemory>
+        requires { place < length self.now }
+        ensures { IfOk result (λ attr. slice_get self.now place ≡ Some attr) }
+    {
+        let Some((name, value)) = self.entries.get_index(place) else {
+            unreachable!();
+        };
+        Ok((PyText::of(name.clone()?), *value))
+    }
+
     /// Takes a name off; the others keep their order.
     pub fn remove(&mut self, name: &PyText)
         ensures { self.new ≡ without name.now self.old }
@@ -73,7 +84,7 @@ impl AttrMap {
     }
 
     /// The same attributes in a map of their own.
-    pub(crate) fn copy(&self) -> Result<AttrMap, NoMemory>
+    pub fn copy(&self) -> Result<AttrMap, NoMemory>
         ensures { IfOk result (λ copy. copy ≡ self.now) }
     {
         Ok(AttrMap {

@@ -59,7 +59,7 @@ use Rattle.py_rows.specs.Asked.{name_of_local, asked}
 use Rattle.py_rows.specs.Questions.{raise_of, may_raise, may_ask, UnitAsks, UnitYields}
 use Rattle.py_rows.specs.Fitting.{HaveKinds, MayWait, TypeWaits, type_number, IsBlock, AreBlocks, Has, wanted_of, raise_left, left_own, left_by, left_of, FitsBut}
 use Rattle.py_rows.specs.Sound.{IsSound}
-use Rattle.py_rows.specs.Laws.{RaisedThere, Always}
+use Rattle.py_rows.specs.Laws.{RaisedThere, Always, setting_of}
 use Rattle.py_rows.proofs.ConstantLemmas.{constant_kind}
 use Rattle.py_rows.proofs.KindLemmas.{kinds_counted, kinds_dropped, kinds_under, kinds_joined, kinds_moved}
 use Rattle.py_rows.proofs.BlockLemmas.{waiting_admitted}
@@ -197,7 +197,7 @@ module _ (objects : List Payload) (names : List (List ℕ)) (globals : Obj) (clo
 
   -- a local that is unset is asked for by its name
   unbound_fits : (op : Instruction) (i : ℕ) → unit.op ≡ op → with_byte s.prefix unit.arg ≡ i → left_of op i 0 kinds blocks ≡ Some (record { kinds = kinds; blocks = blocks; wanted = want.NoValue }) → ((x : Name) → may_ask op unit.arg (request.Unbound x) ≡ true)
-      → nat_lt i (length code.code.code.varnames.items) ≡ true → Led (asks_if (option_map (λ x. request.Unbound x) (name_of_local (record { code = code.code; names = names; globals = globals; closure = closure }) i)) s)
+      → nat_lt i (length code.code.code.varnames.items) ≡ true → Led (asks_if (option_map (λ x. request.Unbound x) (name_of_local (setting_of names globals closure code) i)) s)
   unbound_fits op i is_op operand left asks below =
       let (x, there) = named names code.code.code.varnames.items i sound.named.locals (ltb-true i (length code.code.code.varnames.items) below) in
       subst (λ (o : Option Name). Led (asks_if (option_map (λ x. request.Unbound x) o) s)) (sym there)
@@ -207,13 +207,13 @@ module _ (objects : List Payload) (names : List (List ℕ)) (globals : Obj) (clo
   local_there i below none = let (local, is) = got_there s.locals i (omega (arith, ltb-true i (length code.code.code.varnames.items) below, has.locals)) in cc
 
   load_fast_fits : (i : ℕ) → unit.op ≡ LoadFast → with_byte s.prefix unit.arg ≡ i → nat_lt i (length code.code.code.varnames.items) ≡ true → goes_with (kind.Any ∷ kinds) blocks ≡ true → (local : Option (Option Obj)) → slice_get s.locals i ≡ local
-      → Led (load_fast (name_of_local (record { code = code.code; names = names; globals = globals; closure = closure }) i) local s)
+      → Led (load_fast (name_of_local (setting_of names globals closure code) i) local s)
   load_fast_fits i is_op operand below may None here = absurd (local_there i below here)
   load_fast_fits i is_op operand below may (Some None) here = unbound_fits LoadFast i is_op operand refl (λ x. refl) below
   load_fast_fits i is_op operand below may (Some (Some v)) here = goes_behind (ap is_prefix is_op) (kind.Any ∷ kinds) blocks (v ∷ s.stack) s.blocks s.locals s.slot may (tt, has.holds) has.blocks has.locals
 
   delete_fast_fits : (i : ℕ) → unit.op ≡ DeleteFast → with_byte s.prefix unit.arg ≡ i → nat_lt i (length code.code.code.varnames.items) ≡ true → goes_with kinds blocks ≡ true → (local : Option (Option Obj)) → slice_get s.locals i ≡ local
-      → Led (delete_fast (name_of_local (record { code = code.code; names = names; globals = globals; closure = closure }) i) i local s)
+      → Led (delete_fast (name_of_local (setting_of names globals closure code) i) i local s)
   delete_fast_fits i is_op operand below may None here = absurd (local_there i below here)
   delete_fast_fits i is_op operand below may (Some None) here = unbound_fits DeleteFast i is_op operand refl (λ x. refl) below
   delete_fast_fits i is_op operand below may (Some (Some v)) here =
@@ -409,7 +409,7 @@ module _ (objects : List Payload) (names : List (List ℕ)) (globals : Obj) (clo
   -- an instruction that isn't in the table leads to frames that fit
   own_fits : (op : Instruction) (i : ℕ) → unit.op ≡ op → with_byte s.prefix unit.arg ≡ i → has_operand (sheet_of code) op i ≡ true → runs (sheet_of code) op i ≡ true
       → keeps_own sound.shapes (sheet_of code) s.at op i kinds blocks ≡ true
-      → Always objects (StepFits objects code) (act_own (record { code = code.code; names = names; globals = globals; closure = closure }) op i s)
+      → Always objects (StepFits objects code) (act_own (setting_of names globals closure code) op i s)
   own_fits LoadConst i is_op operand there run keeps =
       loads_fit (slice_get (literals_of code.code.code.constants) i) (λ k. goes_with (k ∷ kinds) blocks) _ run keeps
       (λ k v may is_kind. goes_behind (ap is_prefix is_op) (k ∷ kinds) blocks (v ∷ s.stack) s.blocks s.locals s.slot may (is_kind, has.holds) has.blocks has.locals)
@@ -465,10 +465,10 @@ module _ (objects : List Payload) (names : List (List ℕ)) (globals : Obj) (clo
 
   -- each instruction that keeps the rules and runs so far does
   pub act_fits : (op : Instruction) (i : ℕ) → unit.op ≡ op → with_byte s.prefix unit.arg ≡ i → keeps_op sound.shapes (sheet_of code) s.at op i kinds blocks ≡ true → runs (sheet_of code) op i ≡ true
-      → Always objects (StepFits objects code) (act (record { code = code.code; names = names; globals = globals; closure = closure }) op i s)
+      → Always objects (StepFits objects code) (act (setting_of names globals closure code) op i s)
   act_fits op i is_op operand keeps run =
       let own : Bool = keeps_own sound.shapes (sheet_of code) s.at op i kinds blocks in
       let parts = and_parts (has_operand (sheet_of code) op i) (keeps_by (sheet_of code) s.at (effect op i) own kinds blocks) keeps in
       let may = subst (λ (e : Effect). keeps_by (sheet_of code) s.at e own kinds blocks ≡ true) (row_is (sheet_of code) op i run) parts.1 in
-      by_effect op i (row_effect op i) (asked (record { code = code.code; names = names; globals = globals; closure = closure }) op i) (act_own (record { code = code.code; names = names; globals = globals; closure = closure }) op i s)
+      by_effect op i (row_effect op i) (asked (setting_of names globals closure code) op i) (act_own (setting_of names globals closure code) op i s)
       own is_op operand (other_or_plain op i unit.op is_op) (none_taken op i) refl (asked_there names globals closure code sound.named op i run parts.0) (own_fits op i is_op operand parts.0 run) may

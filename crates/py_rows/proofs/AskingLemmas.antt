@@ -31,6 +31,7 @@ use Rattle.py_check.specs.Sheet.{Sheet, sheet_of}
 use Rattle.py_rows.specs.States.{Setting}
 use Rattle.py_rows.proofs.BelowLemmas.{joined_below}
 use Rattle.py_rows.specs.Answers.{wanted}
+use Rattle.py_rows.specs.Laws.{setting_of}
 use Rattle.py_rows.specs.Suits.{Suits}
 use Rattle.py_rows.specs.Questions.{raise_of, may_ask, UnitAsks}
 use Rattle.py_rows.specs.Fitting.{wanted_of}
@@ -184,12 +185,12 @@ named names ids i places below =
     (chars text, ap (name_in names) is ∙ ap (option_map chars) there)
 
 pub asked_there : (names : List (List ℕ)) (globals : Obj) (closure : List Obj) (code : Annotated) → AreNames names code.code → (op : Instruction) (i : ℕ) → runs (sheet_of code) op i ≡ true → has_operand (sheet_of code) op i ≡ true
-    → AsksAs op (row_effect op i) (asked (record { code = code.code; names = names; globals = globals; closure = closure }) op i)
+    → AsksAs op (row_effect op i) (asked (setting_of names globals closure code) op i)
 asked_there names globals closure code are op i run there =
     by_effect (row_effect op i) (asked setting op i) (is_ready (sheet_of code) op i) (and_from (runs (sheet_of code) op i) (has_operand (sheet_of code) op i) run there) (asked_as ⊥ setting (sheet_of code) places op i)
   where
     setting : Setting
-    setting = record { code = code.code; names = names; globals = globals; closure = closure }
+    setting = setting_of names globals closure code
 
     -- a name that isn't there is out of range
     places : (j : ℕ) → name_of_global setting j ≡ None → (nat_lt j (length code.code.code.names.items) ≡ false → ⊥) → ⊥

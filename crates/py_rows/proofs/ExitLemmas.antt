@@ -215,7 +215,7 @@ module _ (setting : Setting) (x k v b : Obj) (own : Option PyBaseExceptionRef) (
           let told : MayLead objects (moves setting t.wants t) (Tells (exit b) u) = subst (λ (z : Own). MayLead objects (moves setting t.wants t) (Tells z u)) same tells in
           let (e, exits, others) = move_told x k v b own at objects setting u t may told in
           (e, exits, λ objects' b' grows exits'. on u (run_grown objects objects' grows setting s t [] silently) (telling (exit b') u (others objects' b' grows exits')))
-      by_step _ _ (hearing y w hears) earlier is =
+      by_step _ _ (hearing y w hears under) earlier is =
           let (before, same) = one_last us y (exit b) is in
           absurd (hears_none x k v b own at objects setting t t.wants w (subst (λ (z : Own). Hears objects setting t.wants z w) same hears))
 

@@ -138,7 +138,7 @@ lead_grown objects objects' grows (Exits e f) step (t, v, b, exits, is) = (t, v,
 pub step_grown : (objects objects' : List Payload) → Grows objects objects' → (setting : Setting) (s t : State) (xs : List Own) → Steps objects setting s xs t → Steps objects' setting s xs t
 step_grown objects objects' grows setting s _ _ (silent t may) = silent t (lead_grown objects objects' grows (moves setting s.wants s) (Goes t) may)
 step_grown objects objects' grows setting s _ _ (telling x t may) = telling x t (lead_grown objects objects' grows (moves setting s.wants s) (Tells x t) may)
-step_grown objects objects' grows setting s _ _ (hearing x w hears) = hearing x w (hears_grown s.wants x w hears)
+step_grown objects objects' grows setting s _ _ (hearing x w hears under) = hearing x w (hears_grown s.wants x w hears) under
   where
     answer_grown : (w : Wanted) (g : GotAnswer) → IsAnswer objects w g → IsAnswer objects' w g
     answer_grown w (got.Value v) is = value_grown objects objects' grows w v is

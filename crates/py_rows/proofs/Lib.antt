@@ -36,6 +36,8 @@ pub mod WalkLemmas
 pub mod StandingLemmas
 -- more objects
 pub mod GrowingLemmas
+-- other tests of what is handled where exceptions are thrown in
+pub mod UnderLemmas
 -- steps that can be made
 pub mod GoingLemmas
 -- exits that are asked

@@ -46,7 +46,7 @@ low_led objects setting s step globals h may =
 pub slot_kept : (objects : List Payload) (setting : Setting) (first : Option PyBaseExceptionRef) (s t : State) (xs : List Own) → KeepsSlot first s → Steps objects setting s xs t → KeepsSlot first t
 slot_kept objects setting first s _ _ k (silent t may) = let good = (kept_led objects setting first s (Goes t) k may).2.good in record { slot = good.handled tt; outer = good.keep tt }
 slot_kept objects setting first s _ _ k (telling x t may) = let good = (kept_led objects setting first s (Tells x t) k may).4.good in record { slot = good.handled tt; outer = good.keep tt }
-slot_kept objects setting first s _ _ k (hearing x w hears) = record { slot = k.slot; outer = k.outer }
+slot_kept objects setting first s _ _ k (hearing x w hears under) = record { slot = k.slot; outer = k.outer }
 
 -- the unit that runs, or that waited, is the one that was begun last
 last_begun : (x : Expect) (s : State) → IsPlaced (s.last - 1) x s → begun_by x s - 1 ≡ s.at
@@ -69,13 +69,13 @@ steps_stand objects setting first s _ _ standing (silent t may) =
 steps_stand objects setting first s _ _ standing (telling x t may) =
     let led = kept_led objects setting first s (Tells x t) standing.slot may in
     record { placed = subst (λ (n : ℕ). IsPlaced n t.wants t) (sym (told_of objects setting first s x t standing may)) led.2; slot = slot_kept objects setting first s t (x ∷ []) standing.slot (telling x t may) }
-steps_stand objects setting first s _ _ standing (hearing x w hears) =
+steps_stand objects setting first s _ _ standing (hearing x w hears under) =
     record { placed = (heard objects setting 0 (s.last - 1) s s s.wants x w hears).1 standing.placed; slot = record { slot = standing.slot.slot; outer = standing.slot.outer } }
 
 pub events_told : (objects : List Payload) (setting : Setting) (first : Option PyBaseExceptionRef) (s t : State) (x : Own) → IsStanding first s → Steps objects setting s (x ∷ []) t → IsOf (t.last - 1) t x
 events_told objects setting first s _ _ standing (telling x t may) =
     subst (λ (n : ℕ). IsOf n t x) (sym (told_of objects setting first s x t standing may)) (kept_led objects setting first s (Tells x t) standing.slot may).0
-events_told objects setting first s _ _ standing (hearing x w hears) = (heard objects setting 0 (s.last - 1) s (waiting w s) s.wants x w hears).0
+events_told objects setting first s _ _ standing (hearing x w hears under) = (heard objects setting 0 (s.last - 1) s (waiting w s) s.wants x w hears).0
 
 pub silent_later : (objects : List Payload) (setting : Setting) (first : Option PyBaseExceptionRef) (s t : State) → IsStanding first s → Steps objects setting s [] t → (s.at < t.at) × (t.wants ≡ expect.Go)
 silent_later objects setting first s _ standing (silent t may) = let led = kept_led objects setting first s (Goes t) standing.slot may in (led.0, led.1)
@@ -93,7 +93,7 @@ steps_below objects setting s _ _ there h hears (telling x t may) =
     let led = low_led objects setting s (Tells x t) there h may in
     let holds = led.4 in
     (((led.3 tt).0, tt), record { in_stack = holds.stack tt; in_locals = holds.locals tt; in_blocks = holds.good.blocks tt; in_slot = holds.good.exception tt; in_wants = (led.3 tt).1 })
-steps_below objects setting s _ _ there h hears (hearing x w hear) =
+steps_below objects setting s _ _ there h hears (hearing x w hear under) =
     let known = heard objects setting (length objects) 0 s s s.wants x w hear in
     ((known.2, tt), record { in_stack = h.in_stack; in_locals = h.in_locals; in_blocks = h.in_blocks; in_slot = h.in_slot; in_wants = known.3 hears.0 })
 

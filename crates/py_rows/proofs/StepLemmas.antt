@@ -188,7 +188,7 @@ module _ (objects : List Payload) (names : List (List ℕ)) (globals : Obj) (clo
   pub steps_fit : (xs : List Own) (t : State) → FitsAt objects code s.wants s → Steps objects (setting_of names globals closure code) s xs t → FitsAt objects code t.wants t
   steps_fit _ _ f (silent t may) = moved_fits (Goes t) f (λ is. cc) may
   steps_fit _ _ f (telling x t may) = (moved_fits (Tells x t) f (λ is. cc) may).1
-  steps_fit _ _ f (hearing x w hears) = heard_fits s.wants x w f hears
+  steps_fit _ _ f (hearing x w hears under) = heard_fits s.wants x w f hears
 
   -- what is heard is told by no unit
   heard_told : (x : Expect) (o : Own) (w : Expect) → Hears objects (setting_of names globals closure code) x o w → MayTell objects code.code o
@@ -202,7 +202,7 @@ module _ (objects : List Payload) (names : List (List ℕ)) (globals : Obj) (clo
   pub steps_tell : (xs : List Own) (t : State) → FitsAt objects code s.wants s → Steps objects (setting_of names globals closure code) s xs t → AllMayTell objects code.code xs
   steps_tell _ _ f (silent t may) = tt
   steps_tell _ _ f (telling x t may) = ((moved_fits (Tells x t) f (λ is. cc) may).0, tt)
-  steps_tell _ _ f (hearing x w hears) = (heard_told s.wants x w hears, tt)
+  steps_tell _ _ f (hearing x w hears under) = (heard_told s.wants x w hears, tt)
 
 -- the locals of a frame are as many as their names
 pub length-filled : (n : ℕ) (vs : List Obj) → length (filled n vs) ≡ n

@@ -8,6 +8,7 @@ use Rattle.py_objects.specs.Objects.{Obj, HasPayload, AllBelow, numbers, number_
 use Rattle.py_objects.specs.Growth.{Grows}
 use Rattle.py_objects.specs.declared.event.Ending.TheVariants as ending
 use Rattle.py_objects.specs.Own.{Own, Makes, Resumes, Asks, Gets, Rounds, Yields, Ends}
+use Rattle.py_objects.specs.Telling.{ThrowTest, under_any}
 use Rattle.py_check.specs.declared.annotated.Annotated.{Annotated}
 use Rattle.py_check.specs.Depths.{deepest}
 use Rattle.py_rows.specs.declared.expect.Expect.{Expect}
@@ -20,7 +21,7 @@ use Rattle.py_rows.specs.Answers.{HasKind}
 use Rattle.py_rows.specs.Receiving.{moves}
 use Rattle.py_check.specs.Running.{is_generator}
 use Rattle.py_rows.specs.Questions.{UnitAsks, UnitYields}
-use Rattle.py_rows.specs.RunOfRows.{Steps, Runs, started}
+use Rattle.py_rows.specs.RunOfRows.{IsUnder, Steps, Runs, started}
 use Rattle.py_rows.specs.Below.{HearsBelow, TellsBelow, HoldsBelow}
 use Rattle.py_rows.specs.Standing.{IsOf, IsStanding}
 use Rattle.py_rows.specs.Fitting.{FitsAt}
@@ -81,9 +82,9 @@ IsMoving expect.Resume = ⊥
 IsMoving (expect.Heard w) = Unit {0}
 IsMoving expect.Ended = ⊥
 
--- a code with its table of names, its globals and its closure
+-- a code with its table of names, its globals and its closure, into which exceptions are thrown whatever is handled
 abbrev pub setting_of : List (List ℕ) → Obj → List Obj → Annotated → Setting
-setting_of names globals closure code = record { code = code.code; names = names; globals = globals; closure = closure }
+setting_of names globals closure code = record { code = code.code; names = names; globals = globals; closure = closure; throws_under = under_any }
 
 -- a frame that fits its code and expects no input isn't stuck, and fits its code behind its step
 abbrev pub NextFits : Type 0
@@ -126,6 +127,16 @@ FitsGrow = (objects objects' : List Payload) (code : Annotated) (s : State) → 
 -- a run goes over to more objects
 abbrev pub RunsGrow : Type 0
 RunsGrow = (objects objects' : List Payload) (setting : Setting) (s t : State) (xs : List Own) → Grows objects objects' → Runs objects setting s xs t → Runs objects' setting s xs t
+
+-- a test lets each of these events throw in, whatever is handled
+abbrev pub LetsThrough : ThrowTest → List Own → Type 0
+LetsThrough throws [] = Unit {0}
+LetsThrough throws (x ∷ xs) = ((h : Option PyBaseExceptionRef) → IsUnder throws h x) × LetsThrough throws xs
+
+-- a run goes over to each test that lets its events through
+abbrev pub RunsGoUnder : Type 0
+RunsGoUnder = (objects : List Payload) (setting : Setting) (throws : ThrowTest) (s t : State) (xs : List Own)
+    → LetsThrough throws xs → Runs objects setting s xs t → Runs objects (record setting { throws_under = throws }) s xs t
 
 -- a frame that hasn't begun stands where it begins
 abbrev pub StartStands : Type 0

@@ -9,7 +9,8 @@ use Rattle.py_objects.specs.declared.event.ResumeHow.TheVariants as how
 use Rattle.py_objects.specs.declared.payload.ExceptionBody.{ExceptionBody}
 use Rattle.py_objects.specs.Objects.{Obj, HasPayload, IsTraceback, as_object, class_object}
 use Rattle.py_objects.specs.Callees.{is_manager}
-use Rattle.py_objects.specs.Own.{Own, Resumes, Gets}
+use Rattle.py_objects.specs.Own.{Own, Makes, Resumes, Asks, Gets, Rounds, Yields, Ends}
+use Rattle.py_objects.specs.Telling.{ThrowTest}
 use Rattle.py_code.specs.declared.flags.CodeFlags.{CodeFlags}
 use Rattle.py_code.specs.declared.flags.TheConstants.CodeFlags.{IS_GENERATOR, IS_COROUTINE}
 use Rattle.py_check.specs.WholeCode.{counts_if}
@@ -17,6 +18,7 @@ use Rattle.py_check.specs.declared.note.Kind.TheVariants as kind
 use Rattle.py_rows.specs.declared.expect.Expect.{Expect}
 use Rattle.py_rows.specs.declared.expect.Expect.TheVariants as expect
 use Rattle.py_rows.specs.States.{Setting, State, Step, Goes, Tells, Move, Plainly, Loads, Decides, Manages, Resolves, Exits, waiting}
+use Rattle.py_rows.specs.Handled.{handled_in}
 use Rattle.py_rows.specs.Constants.{HasConstant}
 use Rattle.py_rows.specs.Answers.{HasKind, IsAnswer}
 use Rattle.py_rows.specs.Receiving.{moves}
@@ -49,11 +51,24 @@ Hears objects setting expect.Resume (Resumes k (how.Send v)) x = x ≡ expect.He
 Hears objects setting expect.Resume (Resumes k (how.Throw e)) x = HasKind objects (as_object e) kind.Exc × (x ≡ expect.Heard (got.Raise e))
 Hears objects setting _ _ x = ⊥
 
--- one step, with the events that it hears and tells: a silent one, one that tells, one that hears
+-- an event may come while this is handled, by a test of those that throw an exception in
+abbrev pub IsUnder : ThrowTest → Option PyBaseExceptionRef → Own → Type 0
+IsUnder throws h Makes = Unit {0}
+IsUnder throws h (Resumes k how.Start) = Unit {0}
+IsUnder throws h (Resumes k (how.Send v)) = Unit {0}
+IsUnder throws h (Resumes k (how.Throw e)) = throws k h ≡ true
+IsUnder throws h (Asks at r own) = Unit {0}
+IsUnder throws h (Gets k w) = Unit {0}
+IsUnder throws h (Rounds at) = Unit {0}
+IsUnder throws h (Yields at v) = Unit {0}
+IsUnder throws h (Ends at e) = Unit {0}
+
+-- one step, with the events that it hears and tells: a silent one, one that tells, one that hears while what its blocks handle is handled
 pub data Steps (objects : List Payload) (setting : Setting) (s : State) : List Own → State → Type 0 where
   silent : (t : State) → MayLead objects (moves setting s.wants s) (Goes t) → Steps objects setting s [] t
   telling : (x : Own) (t : State) → MayLead objects (moves setting s.wants s) (Tells x t) → Steps objects setting s (x ∷ []) t
-  hearing : (x : Own) (w : Expect) → Hears objects setting s.wants x w → Steps objects setting s (x ∷ []) (waiting w s)
+  hearing : (x : Own) (w : Expect) → Hears objects setting s.wants x w → IsUnder setting.throws_under (handled_in None s.blocks) x
+      → Steps objects setting s (x ∷ []) (waiting w s)
 
 -- the locals of a frame: the arguments, then unset ones
 abbrev pub filled : ℕ → List Obj → List (Option Obj)

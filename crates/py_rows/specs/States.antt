@@ -6,16 +6,18 @@ use Rattle.py_objects.specs.declared.refs.PyBaseExceptionRef.{PyBaseExceptionRef
 use Rattle.py_objects.specs.declared.payload.Payload.{Payload}
 use Rattle.py_objects.specs.Objects.{Obj}
 use Rattle.py_objects.specs.Own.{Own, Rounds}
+use Rattle.py_objects.specs.Telling.{ThrowTest}
 use Rattle.py_rows.specs.declared.block.Block.{Block}
 use Rattle.py_rows.specs.declared.expect.Expect.{Expect}
 use Rattle.py_rows.specs.declared.expect.Expect.TheVariants as expect
 
--- what the units of a frame refer to: its code, and what its function has beside it
+-- what the units of a frame refer to, its code and what its function has beside it, and under what exceptions are thrown into it
 pub record Setting : Type 0 where
   pub code : PyCode
   pub names : List (List ℕ)  -- the table that its names are places in, in UTF-8
   pub globals : Obj  -- the dict of its globals
   pub closure : List Obj  -- the cells of the bodies around, one for each free name of the code
+  pub throws_under : ThrowTest  -- whether the event of a number may throw in while this is handled
 
 -- each free name has a cell
 abbrev pub IsClosed : Setting → Type 0

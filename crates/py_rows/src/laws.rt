@@ -1,6 +1,6 @@
 //! What holds of every run of the rows.
 
-ghost use Rattle.py_rows.specs.Laws.{EndsKeepSlot, EventsTold, FitsGrow, FitsWithin, NextFits, NextGoes, RunsFit, RunsGrow, RunsKeepSlot, RunsBelow, RunsTell, SilentLater, SlotKept, StartFits, StartStands, StartBelow, StepsFit, StepsTell, StepsStand, StepsBelow};
+ghost use Rattle.py_rows.specs.Laws.{EndsKeepSlot, EventsTold, FitsGrow, FitsWithin, NextFits, NextGoes, RunsFit, RunsGoUnder, RunsGrow, RunsKeepSlot, RunsBelow, RunsTell, SilentLater, SlotKept, StartFits, StartStands, StartBelow, StepsFit, StepsTell, StepsStand, StepsBelow};
 
 /// States laws, and does nothing.
 ///
@@ -12,7 +12,8 @@ ghost use Rattle.py_rows.specs.Laws.{EndsKeepSlot, EventsTold, FitsGrow, FitsWit
 /// The slot holds the exception of the innermost handler, or what it held at first, and this where a run has ended. Of every
 /// code: a frame that waits is at the unit that was begun last, and each event that it tells is of that unit; a question names
 /// what is handled in its blocks; a silent step leads to a later unit; and where all that goes in are objects, so is all that
-/// comes out. What fits, and what is a run, stays so as objects are added.
+/// comes out. What fits, and what is a run, stays so as objects are added. A run is also one under each other test of what is
+/// handled where exceptions are thrown in, as long as that lets them through.
 pub fn laws_of_rows()
     ensures start { StartFits }
     ensures next { NextFits }
@@ -34,4 +35,5 @@ pub fn laws_of_rows()
     ensures slot_kept { EndsKeepSlot }
     ensures fits_grow { FitsGrow }
     ensures runs_grow { RunsGrow }
+    ensures runs_go_under { RunsGoUnder }
 {}

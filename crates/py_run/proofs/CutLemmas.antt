@@ -52,9 +52,9 @@ below_more m n [] more below = tt
 below_more m n (x ∷ stack) more below = let here = below.0 in (omega (arith, here, more), below_more m n stack more below.1)
 
 -- whatever the innermost asks
-below_asks : (made : ℕ) (stack : List Act) (r : Option Request) (own : Option PyBaseExceptionRef) → AreBelow made stack → AreBelow made (top_asks r own stack)
-below_asks made [] r own below = below
-below_asks made (x ∷ stack) r own below = below
+below_asks : (made : ℕ) (stack : List Act) (r : Option Request) (own : Option PyBaseExceptionRef) (at : ℕ) → AreBelow made stack → AreBelow made (top_asks r own at stack)
+below_asks made [] r own at below = below
+below_asks made (x ∷ stack) r own at below = below
 
 -- and where it is left
 below_left : (made : ℕ) (stack : List Act) → AreBelow made stack → AreBelow made (drop 1 stack)
@@ -95,9 +95,9 @@ module _ (plan : Plan) (objects : List Payload) where
     stack = (resumed_made plan p a n (resumed plan objects p a h may), n.stack);
     generators = subst (AreMade (length p.state.made)) (sym (entries_running a p.generators)) n.generators;
   }
-  numbered_after p (event.Ask a r own at) may n = record { stack = below_asks (length p.state.made) p.state.stack (Some r) own n.stack; generators = n.generators }
+  numbered_after p (event.Ask a r own at) may n = record { stack = below_asks (length p.state.made) p.state.stack (Some r) own at n.stack; generators = n.generators }
   numbered_after p (event.Got a w) may n = record {
-    stack = below_asks (length p.state.made) p.state.stack None None n.stack;
+    stack = below_asks (length p.state.made) p.state.stack None None 0 n.stack;
     generators = answered_made (question plan p.state) p.state.phase (length p.state.made) (value_of w) p.generators n.generators;
   }
   numbered_after p (event.Round a at) may n = record { stack = n.stack; generators = n.generators }
@@ -121,9 +121,9 @@ Runs b [] = ⊥
 Runs b (x ∷ stack) = (x.number ≡ b) ⊎ Runs b stack
 
 -- whatever the innermost asks
-runs_asks : (b : ℕ) (stack : List Act) (r : Option Request) (own : Option PyBaseExceptionRef) → Runs b stack → Runs b (top_asks r own stack)
-runs_asks b [] r own runs = runs
-runs_asks b (x ∷ stack) r own runs = runs
+runs_asks : (b : ℕ) (stack : List Act) (r : Option Request) (own : Option PyBaseExceptionRef) (at : ℕ) → Runs b stack → Runs b (top_asks r own at stack)
+runs_asks b [] r own at runs = runs
+runs_asks b (x ∷ stack) r own at runs = runs
 
 -- and where another one is left
 runs_left : (a b : ℕ) (stack : List Act) → IsTop a stack → (b ≡ a → ⊥) → Runs b stack → Runs b (drop 1 stack)
@@ -218,11 +218,11 @@ module _ (plan : Plan) where
     cut_after p (event.Resume a h) may n c =
         cut_on p (event.Resume a h) (resumed_made plan p a n (resumed plan objects p a h may)) refl (λ b other runs. inr runs) (λ b is some. inr (inl (sym is))) c
     cut_after p (event.Ask a r own at) ((going, top), tells) n c =
-        cut_on p (event.Ask a r own at) (top_made (length p.state.made) a p.state.stack n.stack top) refl (λ b other runs. runs_asks b p.state.stack (Some r) own runs)
-        (λ b is some. inr (runs_asks b p.state.stack (Some r) own (top_runs a b p.state.stack top is))) c
+        cut_on p (event.Ask a r own at) (top_made (length p.state.made) a p.state.stack n.stack top) refl (λ b other runs. runs_asks b p.state.stack (Some r) own at runs)
+        (λ b is some. inr (runs_asks b p.state.stack (Some r) own at (top_runs a b p.state.stack top is))) c
     cut_after p (event.Got a w) (top, answers) n c =
-        cut_on p (event.Got a w) (top_made (length p.state.made) a p.state.stack n.stack top) refl (λ b other runs. runs_asks b p.state.stack None None runs)
-        (λ b is some. inr (runs_asks b p.state.stack None None (top_runs a b p.state.stack top is))) c
+        cut_on p (event.Got a w) (top_made (length p.state.made) a p.state.stack n.stack top) refl (λ b other runs. runs_asks b p.state.stack None None 0 runs)
+        (λ b is some. inr (runs_asks b p.state.stack None None 0 (top_runs a b p.state.stack top is))) c
     cut_after p (event.Round a at) (going, top) n c =
         cut_on p (event.Round a at) (top_made (length p.state.made) a p.state.stack n.stack top) refl (λ b other runs. runs) (λ b is some. inr (top_runs a b p.state.stack top is)) c
     cut_after p (event.Yield a v at) (going, top) n c =

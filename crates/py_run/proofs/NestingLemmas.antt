@@ -136,11 +136,11 @@ among_on a outer e es (x ∷ stack) other (inr (apart, spares, among)) = inr (ap
     top (y ∷ stack) spares = spares_on a e es y.asks other spares
 
 -- what the innermost asks changes nothing
-among_asks : (a : ℕ) (outer : List Act) (es : List (Obj × ℕ)) (stack : List Act) (r : Option Request) (own : Option PyBaseExceptionRef) → IsAmong a outer es stack
-    → IsAmong a outer es (top_asks r own stack)
-among_asks a outer es [] r own among = among
-among_asks a outer es (x ∷ stack) r own (inl here) = inl here
-among_asks a outer es (x ∷ stack) r own (inr among) = inr among
+among_asks : (a : ℕ) (outer : List Act) (es : List (Obj × ℕ)) (stack : List Act) (r : Option Request) (own : Option PyBaseExceptionRef) (at : ℕ) → IsAmong a outer es stack
+    → IsAmong a outer es (top_asks r own at stack)
+among_asks a outer es [] r own at among = among
+among_asks a outer es (x ∷ stack) r own at (inl here) = inl here
+among_asks a outer es (x ∷ stack) r own at (inr among) = inr among
 
 -- where another one is left, it still runs, and the open question is for another one
 among_leaves : (a b : ℕ) (outer : List Act) (es : List (Obj × ℕ)) (stack : List Act) → IsTop b stack → (b ≡ a → ⊥) → IsAmong a outer es stack
@@ -306,7 +306,7 @@ module _ (plan : Plan) (objects : List Payload) where
   entered_more a b h old p apart spares i =
       let same : entries (running_at b p.generators) ≡ entries p.generators = entries_running b p.generators in
       inside_by a old (after p.state (event.Resume b h)) (running_at b p.generators) (inl refl)
-      (subst (λ es. IsAmong a old.stack es (record { number = b; asks = None; own = None } ∷ p.state.stack)) (sym same) (inr (apart, spares, i.among)))
+      (subst (λ es. IsAmong a old.stack es (record { number = b; asks = None; own = None; at = 0 } ∷ p.state.stack)) (sym same) (inr (apart, spares, i.among)))
       (running_enters a b p.generators (inr i.runs)) i.counted i.same_done
 
   -- which it is, however it is entered
@@ -336,11 +336,11 @@ module _ (plan : Plan) (objects : List Payload) where
       }
   inside_after a old p (event.Resume b h) may stays i = resumed_inside a b h old p (resumed plan objects p b h may) i
   inside_after a old p (event.Ask b r own at) may stays i =
-      inside_by a old (after p.state (event.Ask b r own at)) p.generators (inr refl) (among_asks a old.stack (entries p.generators) p.state.stack (Some r) own i.among) i.runs i.counted i.same_done
+      inside_by a old (after p.state (event.Ask b r own at)) p.generators (inr refl) (among_asks a old.stack (entries p.generators) p.state.stack (Some r) own at i.among) i.runs i.counted i.same_done
   inside_after a old p (event.Got b w) may stays i =
       let still = answered_left plan a old p.state p.generators p.state.phase (value_of w) refl i in
       inside_by a old (after p.state (event.Got b w)) (generators_after plan p.state p.generators (event.Got b w)) (inl refl)
-      (among_asks a old.stack _ p.state.stack None None still.among) still.runs i.counted i.same_done
+      (among_asks a old.stack _ p.state.stack None None 0 still.among) still.runs i.counted i.same_done
   inside_after a old p (event.Round b at) may stays i = i
   inside_after a old p (event.Yield b v at) (going, top) stays i =
       let still = among_leaves a b old.stack (entries p.generators) p.state.stack top stays i.among in

@@ -108,7 +108,7 @@ fits_continues names names' c t grows fits = record {
   params = params_continue names names' c.code grows fits.sound.named ∙ fits.params;
   sound = sound_continues names names' c grows fits.sound;
   typed = fits.typed;
-  traces = λ table globals closure objects slot args ts s on. fits.traces table globals closure objects slot args ts s (continues_on names names' table grows on);
+  traces = λ table globals closure objects throws slot args ts s on. fits.traces table globals closure objects throws slot args ts s (continues_on names names' table grows on);
 }
 
 -- activations of bodies run through, or are those of a generator

@@ -10,7 +10,8 @@ use Rattle.py_objects.specs.declared.payload.FunctionBody.{FunctionBody}
 use Rattle.py_objects.specs.declared.event.Event.{Event}
 use Rattle.py_objects.specs.Objects.{Obj}
 use Rattle.py_objects.specs.Own.{Own, Makes, own_events}
-use Rattle.py_tree.specs.Scene.{anywhere}
+use Rattle.py_objects.specs.Telling.{under_any}
+use Rattle.py_tree.specs.Scene.{Scene, anywhere}
 use Rattle.py_tree.specs.Trace.{IsTrace}
 use Rattle.py_laid.specs.Fits.{Fits, located}
 use Rattle.py_tree.proofs.Carry.{traces_carry}
@@ -46,11 +47,12 @@ traced coded globals objects codes act own compiled bound told (b, has, c, is, c
         let same_code : k ≡ c = one_code k c (sym k_at ∙ ap (slice_get codes.codes) (sym place) ∙ is) in
         let (notes, fits) = subst (λ (x : PyCode). (notes : List Note) × Fits codes.names (record { code = x; notes = notes }) t) same_code k_fits in
         let arity : length act.args ≡ length t.params = bound.binds ∙ ap length params in
-        let whole : IsTrace (located c objects globals) t act.args (Makes ∷ us) = fits.traces codes.names globals closure objects slot act.args us s ([], sym (append-nil codes.names)) arity run in
-        let split : IsTrace (located c objects globals) t act.args ((told.front ∷ told.behind) ++ []) =
-        subst (IsTrace (located c objects globals) t act.args) (sym own_is ∙ told.is ∙ sym (append-nil (told.front ∷ told.behind))) whole in
+        let scene : Scene = located c objects globals under_any in
+        let whole : IsTrace scene t act.args (Makes ∷ us) = fits.traces codes.names globals closure objects under_any slot act.args us s ([], sym (append-nil codes.names)) arity run in
+        let split : IsTrace scene t act.args ((told.front ∷ told.behind) ++ []) =
+        subst (IsTrace scene t act.args) (sym own_is ∙ told.is ∙ sym (append-nil (told.front ∷ told.behind))) whole in
         let front : IsTrace (anywhere objects globals) t act.args (told.front ∷ told.behind) =
-        traces_carry (located c objects globals) (anywhere objects globals) t act.args told.front told.behind [] (record { objects = ([], sym (append-nil objects)); globals = refl; units = λ at line is. refl }) split in
+        traces_carry scene (anywhere objects globals) t act.args told.front told.behind [] (record { objects = ([], sym (append-nil objects)); globals = refl; units = λ at line is. refl; throws = λ event h is. refl }) split in
         (b, has, (OfBody t, ap (slice_get coded) place ∙ at, subst (IsTrace (anywhere objects globals) t act.args) (sym told.is) front))
 
 -- what activations tell by their rows they may tell by their codes

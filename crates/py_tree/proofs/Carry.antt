@@ -58,18 +58,19 @@ answered_goes event (t ∷ ts) more K K' goes cut (inr (i, w, mid, e, k)) =
     let behind : mid ≡ ts ++ more = cc e in
     inr (i, w, ts, ap (λ x. x ∷ ts) same, answers_go w i ts more K K' goes (subst (λ (l : List Own). Answers w i l K) behind k))
 
-on_goes : (w : ResumeHow) (event : ℕ) (ts more : List Own) (K K' : AfterValue) → ValueGoes more K K' → GoesOn w event (ts ++ more) K → GoesOn w event ts K'
-on_goes how.Start event ts more K K' goes k = k
-on_goes (how.Send v) event ts more K K' goes k = goes (Given v) event ts k
-on_goes (how.Throw e) event ts more K K' goes k = goes (Failed e) event ts k
+module _ (throws throws' : ℕ → Bool) (lets : (i : ℕ) → throws i ≡ true → throws' i ≡ true) where
+  on_goes : (w : ResumeHow) (event : ℕ) (ts more : List Own) (K K' : AfterValue) → ValueGoes more K K' → GoesOn throws w event (ts ++ more) K → GoesOn throws' w event ts K'
+  on_goes how.Start event ts more K K' goes k = k
+  on_goes (how.Send v) event ts more K K' goes k = goes (Given v) event ts k
+  on_goes (how.Throw e) event ts more K K' goes (may, k) = (lets event may, goes (Failed e) event ts k)
 
-resumed_goes : (event : ℕ) (ts more : List Own) (K K' : AfterValue) → ValueGoes more K K' → K' Stopped event [] → Resumed event (ts ++ more) K → Resumed event ts K'
-resumed_goes event [] more K K' goes cut told = inl (refl, cut)
-resumed_goes event (t ∷ ts) more K K' goes cut (inl (e, k)) = absurd (cc e)
-resumed_goes event (t ∷ ts) more K K' goes cut (inr (i, w, mid, e, k)) =
-    let same : t ≡ Resumes i w = cc e in
-    let behind : mid ≡ ts ++ more = cc e in
-    inr (i, w, ts, ap (λ x. x ∷ ts) same, on_goes w i ts more K K' goes (subst (λ (l : List Own). GoesOn w i l K) behind k))
+  resumed_goes : (event : ℕ) (ts more : List Own) (K K' : AfterValue) → ValueGoes more K K' → K' Stopped event [] → Resumed throws event (ts ++ more) K → Resumed throws' event ts K'
+  resumed_goes event [] more K K' goes cut told = inl (refl, cut)
+  resumed_goes event (t ∷ ts) more K K' goes cut (inl (e, k)) = absurd (cc e)
+  resumed_goes event (t ∷ ts) more K K' goes cut (inr (i, w, mid, e, k)) =
+      let same : t ≡ Resumes i w = cc e in
+      let behind : mid ≡ ts ++ more = cc e in
+      inr (i, w, ts, ap (λ x. x ∷ ts) same, on_goes w i ts more K K' goes (subst (λ (l : List Own). GoesOn throws w i l K) behind k))
 
 rounded_goes : (ts more : List Own) (cut cut' : Type 0) (next next' : List Own → Type 0) → cut' → ((rest : List Own) → next (rest ++ more) → next' rest) → Rounded (ts ++ more) cut next → Rounded ts cut' next'
 rounded_goes [] more cut cut' next next' stops on told = inl (refl, stops)
@@ -133,14 +134,16 @@ module _ (scene scene' : Scene) (widens : Widens scene scene') (more : List Own)
       let behind : mid ≡ ts ++ more = cc e in
       inr (at, ts, widens.units at line is, ap (λ x. x ∷ ts) same, answered_goes event ts more K K' goes cut (subst (λ (l : List Own). Answered event l K) behind k))
 
-  suspends_go : (line : ℕ) (v : Obj) (event : ℕ) (ts : List Own) (K K' : AfterValue) → ValueGoes more K K' → K' Stopped event []
-      → Suspends scene line v event (ts ++ more) K → Suspends scene' line v event ts K'
-  suspends_go line v event [] K K' goes cut told = inl (refl, cut)
-  suspends_go line v event (t ∷ ts) K K' goes cut (inl (e, k)) = absurd (cc e)
-  suspends_go line v event (t ∷ ts) K K' goes cut (inr (at, mid, is, e, k)) =
+  suspends_go : (line : ℕ) (v : Obj) (h : Handled) (event : ℕ) (ts : List Own) (K K' : AfterValue) → ValueGoes more K K' → K' Stopped event []
+      → Suspends scene line v h event (ts ++ more) K → Suspends scene' line v h event ts K'
+  suspends_go line v h event [] K K' goes cut told = inl (refl, cut)
+  suspends_go line v h event (t ∷ ts) K K' goes cut (inl (e, k)) = absurd (cc e)
+  suspends_go line v h event (t ∷ ts) K K' goes cut (inr (at, mid, is, e, k)) =
       let same : t ≡ Yields at v = cc e in
       let behind : mid ≡ ts ++ more = cc e in
-      inr (at, ts, widens.units at line is, ap (λ x. x ∷ ts) same, resumed_goes event ts more K K' goes cut (subst (λ (l : List Own). Resumed event l K) behind k))
+      let throws : ℕ → Bool = λ (i : ℕ). scene.throws_under i h in
+      let gone = resumed_goes throws (λ i. scene'.throws_under i h) (λ i may. widens.throws i h may) event ts more K K' goes cut (subst (λ (l : List Own). Resumed throws event l K) behind k) in
+      inr (at, ts, widens.units at line is, ap (λ x. x ∷ ts) same, gone)
 
   calls_go : (line : ℕ) (f : Obj) (vs : List Obj) (h : Handled) (event : ℕ) (ts : List Own) (K K' : AfterValue) → ValueGoes more K K' → K' Stopped event []
       → Calls scene line f vs h event (ts ++ more) K → Calls scene' line f vs h event ts K'
@@ -167,7 +170,7 @@ module _ (scene scene' : Scene) (widens : Widens scene scene') (more : List Own)
   finishes_goes (Asks_one r) line (v ∷ []) h event ts K K' goes cut k = requests_go line (r v) h event ts K K' goes (cut event) k
   finishes_goes (Asks_two r) line (v ∷ w ∷ []) h event ts K K' goes cut k = requests_go line (r v w) h event ts K K' goes (cut event) k
   finishes_goes Calls_it line (f ∷ vs) h event ts K K' goes cut k = calls_go line f vs h event ts K K' goes (cut event) k
-  finishes_goes Yields_it line (v ∷ []) h event ts K K' goes cut k = suspends_go line v event ts K K' goes (cut event) k
+  finishes_goes Yields_it line (v ∷ []) h event ts K K' goes cut k = suspends_go line v h event ts K K' goes (cut event) k
   finishes_goes way line vs h event ts K K' goes cut k = (empty_front ts more k.0, cut event)
 
   mutual
@@ -385,7 +388,7 @@ module _ (scene scene' : Scene) (widens : Widens scene scene') (more : List Own)
   entered_goes : (t : Tree) (args : List Obj) (event : ℕ) (w : ResumeHow) (ts : List Own) → Entered scene t args event w (ts ++ more) → Entered scene' t args event w ts
   entered_goes t args event how.Start ts k = suite_goes t.suite _ None event ts _ _ (record { goes = ends_go; cut = λ env i. refl }) k
   entered_goes t args event (how.Send v) ts k = k
-  entered_goes t args event (how.Throw e) ts (is, k) = (is, ended_goes _ ts k)
+  entered_goes t args event (how.Throw e) ts (is, may, k) = (is, widens.throws event None may, ended_goes _ ts k)
 
   begun_goes : (t : Tree) (args : List Obj) (ts : List Own) → IsBegun scene t args (ts ++ more) → IsBegun scene' t args ts
   begun_goes t args [] k = tt

@@ -3,7 +3,7 @@ use Rattle.std.proofs.Common.{◌≡◌, ◌<◌, ◌≤◌, ◌+◌, ℕ, zero,
 use Rattle.std.proofs.lemmas.List.{take_more}
 use Rattle.py_tree.specs.declared.expr.ExprList.{ExprList, items-the_row-Expr, out-ExprList}
 use Rattle.py_tree.specs.declared.expr.Operator.{Operator}
-use Rattle.py_tree.specs.declared.expr.Expr.{Expr, Operation, Operation', Row_of-Expr, end_of-Expr, more_of-Expr}
+use Rattle.py_tree.specs.declared.expr.Expr.{Expr, Operation, Row_of-Expr, end_of-Expr, more_of-Expr}
 use Rattle.py_tree.specs.declared.expr.Expr.TheOpen.{ExprList-F}
 use Rattle.py_tree.specs.declared.expr.Expr.TheViews.{roll-ExprList, the_lemmas}
 use Rattle.py_tree.specs.Tree.{operand, Operate}

@@ -65,8 +65,8 @@ module _ (scene : Scene) where
   Requests line r h event ts K = Asked (λ at. scene.is_of at line) r h event ts K
 
   -- a yield of a statement of a line
-  abbrev pub Suspends : ℕ → Obj → ℕ → List Own → AfterValue → Type 0
-  Suspends line v event ts K = Yielded (λ at. scene.is_of at line) v event ts K
+  abbrev pub Suspends : ℕ → Obj → Handled → ℕ → List Own → AfterValue → Type 0
+  Suspends line v h event ts K = Yielded (λ at. scene.is_of at line) (λ i. scene.throws_under i h) v event ts K
 
   -- a name by its local: a set one is its object, an unset one is asked for, and so is a name that is no local
   abbrev pub Named : ℕ → Option (Option Obj) → Name → Handled → ℕ → List Own → AfterValue → Type 0
@@ -91,7 +91,7 @@ module _ (scene : Scene) where
   Finishes line (Asks_one r) (v ∷ []) h event ts K = Requests line (r v) h event ts K
   Finishes line (Asks_two r) (v ∷ w ∷ []) h event ts K = Requests line (r v w) h event ts K
   Finishes line Calls_it (f ∷ vs) h event ts K = Calls line f vs h event ts K
-  Finishes line Yields_it (v ∷ []) h event ts K = Suspends line v event ts K
+  Finishes line Yields_it (v ∷ []) h event ts K = Suspends line v h event ts K
   Finishes line way vs h event ts K = (ts ≡ []) × K Stopped event []
 
   abbrev mutual

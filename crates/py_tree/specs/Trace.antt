@@ -1,5 +1,5 @@
 -- The own events of an activation as a trace of its body.
-use Rattle.std.specs.Prelude.{ℕ, None, List, [], ◌∷◌, ◌≡◌, ◌⊎◌, length}
+use Rattle.std.specs.Prelude.{ℕ, true, None, List, [], ◌∷◌, ◌≡◌, ◌⊎◌, length}
 use Rattle.py_objects.specs.declared.payload.Payload.TheVariants as payload
 use Rattle.py_objects.specs.declared.event.ResumeHow.{ResumeHow}
 use Rattle.py_objects.specs.declared.event.ResumeHow.TheVariants as how
@@ -26,11 +26,11 @@ EndsBy scene env Cut k ts = ts ≡ []
 EndsBy scene env _ k ts = ⊥
 
 -- what may follow the first entry of an activation: where it starts, what its body may tell, and the end by the body's outcome. Into a
--- generator that hasn't started an exception may be thrown, too: then it ends by that, and no statement runs
+-- generator that hasn't started an exception may be thrown, too, while it handles nothing: then it ends by that, and no statement runs
 abbrev pub Entered : Scene → Tree → List Obj → ℕ → ResumeHow → List Own → Type 0
 Entered scene t args k how.Start ts = RunsSuite scene t.suite (start_env t args) None k ts (EndsBy scene)
 Entered scene t args k (how.Send v) ts = ⊥
-Entered scene t args k (how.Throw e) ts = (t.kind ≡ Generator) × Ended (ending.Raise e) ts
+Entered scene t args k (how.Throw e) ts = (t.kind ≡ Generator) × (scene.throws_under k None ≡ true) × Ended (ending.Raise e) ts
 
 -- what may follow the making of an activation
 abbrev pub IsBegun : Scene → Tree → List Obj → List Own → Type 0

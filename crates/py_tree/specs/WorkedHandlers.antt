@@ -8,6 +8,7 @@ use Rattle.py_objects.specs.declared.event.GotAnswer.TheVariants as got
 use Rattle.py_objects.specs.declared.event.Ending.TheVariants as ending
 use Rattle.py_objects.specs.Objects.{Obj, HasPayload, as_object}
 use Rattle.py_objects.specs.Own.{Own, Makes, Resumes, Asks, Gets, Ends}
+use Rattle.py_objects.specs.Telling.{under_any}
 use Rattle.py_tree.specs.declared.expr.Atom.TheVariants as atom
 use Rattle.py_tree.specs.Tree.{Name, Leaf, Show, Pass, TryExcept, TryFinally, nothing, first, no_more, clause, Tree}
 use Rattle.py_tree.specs.Scene.{Scene}
@@ -16,7 +17,7 @@ use Rattle.py_tree.specs.Worked.{e_name, function}
 
 -- where object 0 is None, object 1 is True and object 2 is False, and each unit asks for a statement of the line that its place is
 abbrev pub by_line : Obj → Scene
-by_line globals = record { objects = payload.None ∷ payload.Bool true ∷ payload.Bool false ∷ []; globals = globals; is_of = λ at line. eqb at line }
+by_line globals = record { objects = payload.None ∷ payload.Bool true ∷ payload.Bool false ∷ []; globals = globals; is_of = λ at line. eqb at line; throws_under = under_any }
 
 abbrev pub none_object : Obj
 none_object = record { number = 0 }

@@ -10,6 +10,7 @@ use Rattle.py_objects.specs.declared.event.GotAnswer.TheVariants as got
 use Rattle.py_objects.specs.declared.event.Ending.TheVariants as ending
 use Rattle.py_objects.specs.Objects.{Obj, HasPayload, as_object, class_object}
 use Rattle.py_objects.specs.Own.{Own, Makes, Resumes, Asks, Gets, Ends}
+use Rattle.py_objects.specs.Telling.{under_any}
 use Rattle.py_tree.specs.declared.expr.Atom.TheVariants as atom
 use Rattle.py_tree.specs.Tree.{Name, Leaf, Return, Reraise, Show, With, nothing, first, Tree}
 use Rattle.py_tree.specs.Scene.{Scene}
@@ -30,7 +31,7 @@ raised = record { number = 3 }
 -- where object 0 is None, object 1 is True, object 2 is a manager and object 3 is an exception, and each unit asks for a statement of the line
 -- that its place is
 abbrev pub managing : ManagerBody → ExceptionBody → Obj → Scene
-managing m x globals = record { objects = payload.None ∷ payload.Bool true ∷ payload.Manager m ∷ payload.Exception x ∷ []; globals = globals; is_of = λ at line. eqb at line }
+managing m x globals = record { objects = payload.None ∷ payload.Bool true ∷ payload.Manager m ∷ payload.Exception x ∷ []; globals = globals; is_of = λ at line. eqb at line; throws_under = under_any }
 
 -- ---- what an exit swallows
 

@@ -3,8 +3,8 @@
 ghost use Rattle.py_tree.specs.Laws.{TracesCarry};
 ghost use Rattle.py_tree.specs.Endings.{ClauseEndsAsSuite, ClausesRunOnRaise, CutStaysCut, ExitGoesOn, ExitIsAsked, FinallyIsRun, FinallyPassesOn, FirstClauseDecides, NameIsUnset, NoClauseRaises, StatementsGoOn, SuiteEndsClause, TracesComeToPoints};
 
-/// States a law, and does nothing: a trace may be cut anywhere behind the making of its activation, and goes over to more objects
-/// and to more units that may ask.
+/// States a law, and does nothing: a trace may be cut anywhere behind the making of its activation, and goes over to more objects,
+/// to more units that may ask and to more events that may throw an exception in.
 pub fn laws_of_traces()
     ensures carry { TracesCarry }
 {}

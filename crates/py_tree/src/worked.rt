@@ -1,7 +1,7 @@
 //! Small trees, worked by hand.
 
 ghost use Rattle.py_tree.specs.Worked.{HandledIsTrace, LeftIsTrace, NoExceptionLetOut, NoExceptionStays, NoFinallyBrokenOutOf, NoFinallySkipped, ReturnedIsTrace, ShownIsTrace};
-ghost use Rattle.py_tree.specs.WorkedGenerators.{NoClauseBeforeStart, NoOtherYielded, NoThrowIntoFunction, NoneGoesOnAlone, ThrownInIsTrace, YieldedIsTrace};
+ghost use Rattle.py_tree.specs.WorkedGenerators.{NoClauseBeforeStart, NoOtherYielded, NoThrowIntoFunction, NoThrowUnderNothing, NoneGoesOnAlone, ThrownInIsTrace, ThrownWhileHandling, YieldedIsTrace};
 ghost use Rattle.py_tree.specs.WorkedHandlers.{FinallyHandles, NameIsForgotten, NotByTheClause, NoFinallyForgets, RaisedAgain};
 ghost use Rattle.py_tree.specs.WorkedManagers.{LeftByReturnIsTrace, NoExitSkipped, NoExitSkippedByRaise, NoExitUnhandled, NoRaiseSwallowed, NoReturnSwallowed, SwallowedIsTrace};
 
@@ -26,7 +26,8 @@ pub fn worked_handlers()
     ensures forgotten { NameIsForgotten }
 {}
 
-/// States what small generators yield, how they go on and what ends them before their start, and does nothing.
+/// States what small generators yield, how they go on, what ends them before their start, and what they handle where an exception is
+/// thrown in, and does nothing.
 pub fn worked_yields()
     ensures yielded { YieldedIsTrace }
     ensures no_other_yielded { NoOtherYielded }
@@ -34,6 +35,8 @@ pub fn worked_yields()
     ensures thrown_in { ThrownInIsTrace }
     ensures no_clause_before_start { NoClauseBeforeStart }
     ensures no_throw_into_function { NoThrowIntoFunction }
+    ensures thrown_while_handling { ThrownWhileHandling }
+    ensures no_throw_under_nothing { NoThrowUnderNothing }
 {}
 
 /// States what the exits of managers are asked in small trees, that one may swallow a raise, and that none is left out behind a

@@ -115,7 +115,7 @@ got_law m d s h hs store list raises w Other k grown waits as_wanted below repli
     let first : Option PyBaseExceptionRef = first_slot r.kind hs in
     let slot : Option PyBaseExceptionRef = top_of m.slots in
     let shares : slot ≡ r.frame.state.slot = ap top_of waits.slots ∙ top_stacked r.kind r.frame.state.slot (slots_in hs) in
-    let stack : (state_after start m.events).stack ≡ record { number = r.act; asks = Some q.request; own = q.own } ∷ caller_acts m.events hs =
+    let stack : (state_after start m.events).stack ≡ record { number = r.act; asks = Some q.request; own = q.own; at = q.at } ∷ caller_acts m.events hs =
     waits.stack ∙ ap (λ y. asking r.act y ∷ caller_acts m.events hs) q.entry in
     let halted : AreHalted m hs = inside_halted m m.world.generators d r.kind r.act hs waits.inside in
     let grows : Grows m.world.store.made store.made = objects_grow m.world.store store grown in
@@ -134,7 +134,7 @@ got_law m d s h hs store list raises w Other k grown waits as_wanted below repli
       grown = grown_longer m.world.store store grown;
       done = k.follows.done;
       phase = refl;
-      stack = ap (top_asks None None) stack ∙ ap (λ l. goes r ∷ l) (acts_still m e hs halted);
+      stack = ap (top_asks None None 0) stack ∙ ap (λ l. goes r ∷ l) (acts_still m e hs halted);
       made = k.follows.made;
       modes = λ asked is. fold asked (value_of (got_of w)) is refl;
       told = played_told m s store e d k grown refl below now first refl plays;
@@ -152,7 +152,7 @@ got_law m d s h hs store list raises w Other k grown waits as_wanted below repli
           inside = inside_on m store.made e grows Other m.world.generators list change.carried d r.kind r.act hs waits.others others other waits.inside;
         },
       );
-    }) (refl, tt) (λ asked is. (top_is m r (Some q.request) q.own (caller_acts m.events hs) stack, replied asked is))
+    }) (refl, tt) (λ asked is. (top_is m r (Some q.request) q.own q.at (caller_acts m.events hs) stack, replied asked is))
 
 -- the drive has its result, where what it asked is answered and no activation runs
 pub result_law : (m : Core) (d : Drive) (s : Stage) (store : Kept) (list : List KeptGenerator) (w : MadeReply) (Other : ℕ → Type 0) → Keeps m d s → m.callers ≡ [] → Alone m → IsGrown m.world.store store

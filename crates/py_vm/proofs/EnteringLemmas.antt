@@ -92,7 +92,7 @@ entered_law m d r f plain k =
       grown = longer_refl m.world.store;
       done = k.follows.done;
       phase = refl;
-      stack = ap (λ l. record { number = r.act; asks = None; own = None } ∷ l) (k.follows.stack ∙ acts_still m e m.callers halted);
+      stack = ap (λ l. record { number = r.act; asks = None; own = None; at = 0 } ∷ l) (k.follows.stack ∙ acts_still m e m.callers halted);
       made = k.follows.made;
       modes = λ asked is. modes_none_run r.act m.world.generators k.at_stage.4;
       told = played_told m (stage.Made r f) m.world.store e d k (grown_refl m.world.store) refl tt now slot refl plays;
@@ -284,7 +284,7 @@ resumed_law m d s hs q store list x h k opened asked_by theirs entering =
       grown = grown_longer m.world.store store grown;
       done = k.follows.done;
       phase = refl;
-      stack = ap (λ l. record { number = r.act; asks = None; own = None } ∷ l) (stack_of m d hs asked_by ∙ acts_still m e hs halted);
+      stack = ap (λ l. record { number = r.act; asks = None; own = None; at = 0 } ∷ l) (stack_of m d hs asked_by ∙ acts_still m e hs halted);
       made = k.follows.made;
       modes = λ asked is. ap (λ n. running_at n (modes_of m.world.generators)) act ∙ modes_entered g (is_close q) f (λ z. refl) (λ z. refl) (λ z. refl) m.world.generators kept here k.kept.single ∙ ap modes_of (sym become);
       told = played_told m s store e d k grown refl ready.named now None refl plays;

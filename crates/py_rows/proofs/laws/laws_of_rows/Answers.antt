@@ -2,6 +2,7 @@ use Rattle.std.specs.Prelude.{[]}
 use Rattle.py_rows.proofs.StepLemmas.{start_fits, next_fits, steps_fit, steps_tell, within}
 use Rattle.py_rows.proofs.StandingLemmas.{slot_kept, start_stands, steps_stand, events_told, silent_later, start_below, steps_below}
 use Rattle.py_rows.proofs.GrowingLemmas.{fits_grown, run_grown}
+use Rattle.py_rows.proofs.UnderLemmas.{run_under}
 use Rattle.py_rows.proofs.GoingLemmas.{next_goes}
 use Rattle.py_rows.proofs.RunLemmas.{runs_fit, runs_tell, runs_below, runs_keep_slot, ends_keep_slot}
 use Rattle.py_rows.proofs.laws.laws_of_rows.Goals as goal
@@ -32,6 +33,9 @@ returns-clause-fits_grow c = λ objects objects' code s grows fits. fits_grown o
 
 pub returns-clause-runs_grow : goal.returns-clause-runs_grow
 returns-clause-runs_grow c = λ objects objects' setting s t xs grows run. run_grown objects objects' grows setting s t xs run
+
+pub returns-clause-runs_go_under : goal.returns-clause-runs_go_under
+returns-clause-runs_go_under c = λ objects setting throws s t xs lets run. run_under setting throws objects s t xs lets run
 
 pub returns-clause-start_stands : goal.returns-clause-start_stands
 returns-clause-start_stands c = start_stands

@@ -1,4 +1,4 @@
-use Rattle.py_tree.proofs.WorkedGeneratorLemmas.{yielded_is_trace, no_other_yielded, none_goes_on_alone, thrown_in_is_trace, no_clause_before_start, no_throw_into_function}
+use Rattle.py_tree.proofs.WorkedGeneratorLemmas.{yielded_is_trace, no_other_yielded, none_goes_on_alone, thrown_in_is_trace, no_clause_before_start, no_throw_into_function, thrown_while_handling, no_throw_under_nothing}
 use Rattle.py_tree.proofs.worked.worked_yields.Goals as goal
 
 pub returns : goal.returns
@@ -9,4 +9,6 @@ returns c = record {
   thrown_in = thrown_in_is_trace;
   no_clause_before_start = no_clause_before_start;
   no_throw_into_function = no_throw_into_function;
+  thrown_while_handling = thrown_while_handling;
+  no_throw_under_nothing = no_throw_under_nothing;
 }
