@@ -16,12 +16,13 @@ use Rattle.py_exceptions.specs.Repr.{payload_of, items_of}
 use Rattle.py_exceptions.specs.Said.{attribute}
 use Rattle.py_exceptions.specs.Keeping.{os_args}
 
--- the files of an OSError among its arguments, the second one only after a first
+-- these files, where they are there, the second one only after a first
 abbrev pub file_args : Option Obj → Option Obj → List Obj
 file_args None second = []
 file_args (Some first) None = first ∷ []
 file_args (Some first) (Some second) = first ∷ second ∷ []
 
+-- those of an OSError as it is
 abbrev pub files_at : List Payload → ExceptionBody → List Obj
 files_at objects e = file_args (attribute objects e (codes "filename")) (attribute objects e (codes "filename2"))
 

@@ -51,8 +51,8 @@ fn link_of(field: LinkField, payload: &Payload) -> Option<PyObjectRef>
     }
 }
 
-/// The first object, on the way from one, whose link leads to another. It ends on any links: who hasn't found it in as many
-/// steps as there are objects has met one again.
+/// The first object, on the way from one, whose link leads to another. It ends on any links: a walk that hasn't found it in as
+/// many steps as there are objects has come back.
 pub(crate) fn first_to(
     store: &Store,
     field: LinkField,
