@@ -370,7 +370,7 @@ counted_own k n =
     (Ends 0 (ending.Raise (exception (suc n))) ∷ []))
 
 -- a trace goes on by a yield into which an exception is thrown, where what is left of it goes on behind that
-thrown : {A : Type 0} {C : List Own → Type 0} {D : ℕ → ResumeHow → List Own → Type 0} {v : Obj} {i : ℕ}
+pub thrown : {A : Type 0} {C : List Own → Type 0} {D : ℕ → ResumeHow → List Own → Type 0} {v : Obj} {i : ℕ}
     {rest : List Own} (e : PyBaseExceptionRef) → D i (how.Throw e) rest
     → A ⊎ ((at : ℕ) × (mid : List Own) × (true ≡ true)
     × (Yields 0 v ∷ Resumes i (how.Throw e) ∷ rest ≡ Yields at v ∷ mid)

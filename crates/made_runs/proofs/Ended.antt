@@ -12,6 +12,8 @@ use Rattle.py_run.specs.Run.{Posed, Activation, Idle, State, start, state_after}
 use Rattle.py_run.specs.Generators.{Generator}
 use Rattle.py_run.specs.Coming.{Past, nothing, Comes}
 use Rattle.py_run.specs.Past.{past_behind}
+use Rattle.py_run.specs.Links.{ContextsCome}
+use Rattle.py_run.proofs.LinksLemmas.{contexts_join}
 use Rattle.py_run.proofs.GeneratorsLemmas.{entries}
 use Rattle.py_run.proofs.OwnLemmas.{state_lists}
 use Rattle.py_run.proofs.PastLemmas.{past_events, past_lists, past_state}
@@ -24,6 +26,7 @@ use Rattle.made_runs.proofs.Found.{AreBelow}
 use Rattle.made_runs.proofs.Objects.{store}
 use Rattle.made_runs.proofs.Steps.{plan, past, idle}
 use Rattle.made_runs.proofs.Telling.{may, Tell}
+use Rattle.made_runs.proofs.Contexts.{under, GiveNone}
 use Rattle.made_runs.proofs.Asked.{asked_on, asked_both}
 
 -- each of these activations tells by events what it may
@@ -43,6 +46,7 @@ module _ (asked : List Posed) (more : List Payload) where
     pub acts : Acts (length ms) es
     pub tells : TellBy more es ms
     pub asks : AreAsked (store more) es ds qs
+    pub contexts : ContextsCome (under more) (store more) [] [] start es
     pub all : length ds ≡ length qs
 
   -- where a run stands between drives, with these generators
@@ -66,6 +70,7 @@ module _ (asked : List Posed) (more : List Payload) where
     pub acts : list_all (λ (e : Event). nat_lt (whose e) (length made)) local ≡ true
     pub tells : (k : ℕ) → Tell more 0 k local made
     pub asks : AreAsked (store more) (es ++ behind qs ms local) ds others
+    pub contexts : GiveNone more es (length qs) ms (behind qs ms local)
     pub all : length ds ≡ length others
 
   -- each of the activations of a group tells what it may
@@ -184,6 +189,9 @@ module _ (asked : List Posed) (more : List Payload) where
       asks =
           asked_both (store more) (es ++ events) ds ds' qs others ended.all
           (asked_on (store more) es events ds qs ended.asks) group.asks;
+      contexts =
+          contexts_join (under more) (store more) [] [] start es events ended.contexts
+          (subst (λ (s : State). ContextsCome (under more) (store more) [] es s events) (sym ended.state) group.contexts);
       all =
           (let front = ended.all in
           let back = group.all in

@@ -13,6 +13,7 @@ mod Working
 mod Raising
 mod Returning
 mod Counting
+mod Contexts
 -- a run between groups, and one group more
 mod Asked
 mod Ended

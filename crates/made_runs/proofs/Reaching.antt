@@ -249,5 +249,6 @@ module _ (asked : List Posed) (own : List Payload) where
     acts = tt;
     tells = λ i a at. absurd (cc at);
     asks = tt;
+    contexts = tt;
     all = refl;
   }

@@ -15,7 +15,7 @@ use Rattle.py_run.specs.Run.{Posed, State}
 use Rattle.py_run.specs.Coming.{IsDone}
 use Rattle.py_run.specs.declared.journal.Journal.{Journal}
 use Rattle.py_meaning.specs.Core.{IsCore}
-use Rattle.py_meaning.specs.Whole.{IsRunOf}
+use Rattle.py_meaning.specs.Whole.{IsRunOf, IsJournalOf}
 use Rattle.made_runs.specs.Runs.{AreCore, HaveRuns, most_events_of_a_group}
 use Rattle.made_runs.proofs.Lists.{Each, each_at, each_both}
 use Rattle.made_runs.proofs.Blocks.{Names}
@@ -99,6 +99,11 @@ module _ (count s : ℕ) where
     codes = record { names = []; codes = [] };
   }
 
+  -- in it nothing changes, since no exception gets a context
+  is_journal : IsJournalOf decls (drives_from count s 1) journal
+  unfolding is_run
+  is_journal = record { run = is_run; links = record { contexts = run.ended.contexts; alone = tt } }
+
 -- each text that is made has a whole run
 pub have_runs : HaveRuns
 have_runs seed count low =
@@ -110,12 +115,8 @@ have_runs seed count low =
       j,
       subst (λ (l : List Decl). Spells text l script.drives) (sym declares)
           (subst (Spells text decls) (sym drives) (spelled seed count low)),
-      record {
-        run =
-            subst (λ (l : List Decl). IsRunOf l script.drives j.objects j.events) (sym declares)
-            (subst (λ (l : List DriveLine). IsRunOf decls l j.objects j.events) (sym drives) (is_run count s));
-        unchanged = refl;
-      },
+      subst (λ (l : List Decl). IsJournalOf l script.drives j) (sym declares)
+          (subst (λ (l : List DriveLine). IsJournalOf decls l j) (sym drives) (is_journal count s)),
       subst (λ (l : List DriveLine). IsDone (length l) j.events) (sym drives) (is_done count s),
       (let short = (run count s).short in omega (arith, short)),
     )

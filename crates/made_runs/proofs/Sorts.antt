@@ -26,6 +26,7 @@ use Rattle.made_runs.proofs.Steps.{idle}
 use Rattle.made_runs.proofs.Raising.{raising_comes, raising_names, raising_tells}
 use Rattle.made_runs.proofs.Returning.{returning_comes, returning_names, returning_tells}
 use Rattle.made_runs.proofs.Counting.{counting_comes, counting_names, counting_tells}
+use Rattle.made_runs.proofs.Contexts.{gives_none}
 use Rattle.made_runs.proofs.Ended.{IsEnded, IsGroup}
 
 -- the number of a group is below 500 where work raises, and isn't where it returns
@@ -133,6 +134,7 @@ module _ (asked : List Posed) (more : List Payload) (es : List Event) (qs rest :
     acts = refl;
     tells = λ k. raising_tells more k n x first;
     asks = (((work_object, x ∷ [], refl, refl, (has, tt)), refl), tt);
+    contexts = gives_none more es d n ms x ended.acts Raises;
     all = refl;
   }
   group_of Returns ds ended for enough number is has first second = record {
@@ -147,6 +149,7 @@ module _ (asked : List Posed) (more : List Payload) (es : List Event) (qs rest :
     acts = refl;
     tells = λ k. returning_tells more k x;
     asks = (((work_object, x ∷ [], refl, refl, (has, tt)), refl), tt);
+    contexts = gives_none more es d n ms x ended.acts Returns;
     all = refl;
   }
   group_of Counts ds ended for enough number is has first second = record {
@@ -168,6 +171,7 @@ module _ (asked : List Posed) (more : List Payload) (es : List Event) (qs rest :
       ((count_object, x ∷ [], refl, refl, (has, tt)), refl),
       (((obj n, none_object, refl, leaves_generator, refl), refl), (((obj n, refl, leaves_generator), refl), tt)),
     );
+    contexts = gives_none more es d n ms x ended.acts Counts;
     all = refl;
   }
 

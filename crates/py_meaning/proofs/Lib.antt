@@ -11,6 +11,7 @@ mod OneScript
 -- how they end, and what is written of them
 mod Lengths
 mod TextsAgree
+mod LinkedText
 pub mod ScriptsAgree
 -- what is written where no object changes, and journals worked by hand
 mod PlainText
@@ -25,4 +26,5 @@ mod WorkedFinallyLemmas
 mod WorkedGeneratorLemmas
 mod WorkedWithLemmas
 mod WorkedRawLemmas
+mod WorkedContextLemmas
 mod ComparedLemmas

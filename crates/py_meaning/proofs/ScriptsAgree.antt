@@ -1,7 +1,6 @@
 -- Two runs of one script are the same as far as both go; which is longer, and which texts are one.
-use Rattle.std.proofs.Common.{◌≡◌, ◌≤◌, ◌<◌, ◌∙◌, ℕ, List, [], length, ap, sym, arith}
+use Rattle.std.proofs.Common.{◌≡◌, ◌≤◌, ◌<◌, ◌∙◌, ℕ, List, length, sym, arith}
 use Rattle.py_objects.specs.declared.payload.Payload.{Payload}
-use Rattle.py_objects.specs.declared.edit.Change.{Change}
 use Rattle.py_objects.specs.declared.event.Event.{Event}
 use Rattle.py_lines.specs.declared.drive.DriveLine.{DriveLine}
 use Rattle.py_grammar.specs.Grammar.{Decl, codes_in}
@@ -14,15 +13,13 @@ use Rattle.py_determined.proofs.RunsAgree.{runs_agree}
 use Rattle.py_meaning.specs.Core.{IsCore, IsCoreFrom}
 use Rattle.py_meaning.specs.Earlier.{NameEarlier}
 use Rattle.py_meaning.specs.Whole.{IsRunOf, IsRunFrom, IsWholeFrom, IsUnfinishedFrom, Traces, plan_of}
-use Rattle.py_meaning.specs.Text.{text_of, events_text}
+use Rattle.py_meaning.specs.Text.{text_of}
 use Rattle.py_meaning.proofs.CoreLemmas.{core_script}
 use Rattle.py_meaning.proofs.EarlierLemmas.{script_earlier}
 use Rattle.py_meaning.proofs.OneScript.{signatures_agree, first_alike, bodies_agree, drives_agree}
 use Rattle.py_meaning.proofs.Lengths.{run_of, no_longer, unfinished_shorter}
 use Rattle.py_meaning.proofs.TextsAgree.{texts_agree}
-
-unchanged_text : (j : Journal) → j.changes ≡ [] → text_of j ≡ events_text j.objects [] j.events
-unchanged_text j none = ap (λ (cs : List Change). events_text j.objects cs j.events) none
+use Rattle.py_meaning.proofs.LinkedText.{linked_text}
 
 -- two runs of the same declarations and drives, where no declaration is a raw code
 module _ (decls : List Decl) (drives : List DriveLine) (core : IsCore decls) (earlier : NameEarlier drives) (objects objects' : List Payload) (events events' : List Event)
@@ -68,9 +65,9 @@ module _ (bytes : List ℕ) (j j' : Journal) (core : IsCoreFrom bytes) where
       let (same, alike) = runs_agree_from run run' in
       let (s, is, ran) = run in
       let (t, is', ran') = run' in
-      unchanged_text j ran.unchanged
+      linked_text 1 (length j.events) j ran.links.alone
       ∙ (texts_agree (Paired j.objects j'.objects j.events j'.events) j.objects j'.objects alike ran.run.are_objects.fit ran'.run.are_objects.fit j.events j'.events count same ran.run.run.named ran'.run.run.named
-      ∙ sym (unchanged_text j' ran'.unchanged))
+      ∙ sym (linked_text 1 (length j'.events) j' ran'.links.alone))
 
 module _ (bytes : List ℕ) (j j' : Journal) (core : IsCoreFrom bytes) (whole : IsWholeFrom bytes j) (whole' : IsWholeFrom bytes j') where
   -- two whole ones are as long

@@ -29,7 +29,7 @@ use Rattle.py_exceptions.specs.Texts.{str_by, str_within, str, repr, details, ra
 use Rattle.py_meaning.specs.Text.{numbered, result_text, shown_line, request_text, event_text, text_from, events_text}
 
 -- one of two texts, by a test
-chosen : {b c : Bool} {x x' y y' : List ℕ} → b ≡ c → x ≡ x' → y ≡ y' → (if b then x else y) ≡ (if c then x' else y')
+pub chosen : {b c : Bool} {x x' y y' : List ℕ} → b ≡ c → x ≡ x' → y ≡ y' → (if b then x else y) ≡ (if c then x' else y')
 chosen {b = b} {c = c} {x = x} {y = y} test first second = ap (λ t. if t then x else y) test ∙ ap₂ (λ one other. if c then one else other) first second
 
 -- ---- related objects that are there

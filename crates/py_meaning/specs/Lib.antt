@@ -19,5 +19,6 @@ pub mod WorkedCall
 pub mod WorkedGenerator
 pub mod WorkedWith
 pub mod WorkedRaw
+pub mod WorkedContext
 -- events of two runs, compared by hand
 pub mod Compared

@@ -19,6 +19,7 @@ use Rattle.py_objects.specs.declared.event.Event.TheVariants as event
 use Rattle.py_objects.specs.ErrorKinds.{name_of}
 use Rattle.py_objects.specs.Objects.{Obj, Name, HasPayload, as_object, declared, AllFit}
 use Rattle.py_objects.specs.Own.{Own}
+use Rattle.py_objects.specs.Telling.{ThrowTest, under_any}
 use Rattle.py_tree.specs.declared.body.BodyKind.{BodyKind}
 use Rattle.py_tree.specs.declared.body.BodyKind.TheVariants.{Function, Generator}
 use Rattle.py_tree.specs.Tree.{seen_as}
@@ -39,6 +40,7 @@ use Rattle.py_exceptions.specs.BuiltIn.{IsClassOf}
 use Rattle.py_run.specs.declared.journal.Journal.{Journal}
 use Rattle.py_run.specs.Run.{Signature, Pose, Requests, Forms, Posed, Plan}
 use Rattle.py_run.specs.Coming.{May, IsRunBy, IsDone}
+use Rattle.py_run.specs.Links.{HasLinks}
 
 -- what the answer of a drive leaves for `$N`: its value or its exception, None where there is none
 abbrev pub IsLeft : List Payload → DriveAnswer → Obj → Type 0
@@ -197,10 +199,19 @@ abbrev pub Tells : Scene → Coded → List Obj → List Own → Type 0
 Tells scene (OfBody t) vs own = IsTrace scene t vs own
 Tells scene (OfRaw b) vs own = Unit {0}
 
--- an activation's own events are what one of the code of its function may tell, where this is the dict of the globals
+-- where a body runs into which exceptions are thrown under what a test lets through
+abbrev pub thrown_in : ThrowTest → List Payload → Obj → Scene
+thrown_in throws objects globals = record (anywhere objects globals) { throws_under = throws }
+
+-- an activation's own events are what one of the code of its function may tell, where this is the dict of the globals, and where exceptions are thrown
+-- in under what a test lets through
+abbrev pub TracesUnder : ThrowTest → List Coded → Obj → List Payload → May
+TracesUnder throws coded globals objects f vs own =
+    (b : FunctionBody) × HasPayload objects f (payload.Function b) × ((c : Coded) × (slice_get coded b.code ≡ Some c) × Tells (thrown_in throws objects globals) c vs own)
+
+-- the same, where they are thrown in whatever is handled
 abbrev pub Traces : List Coded → Obj → List Payload → May
-Traces coded globals objects f vs own =
-    (b : FunctionBody) × HasPayload objects f (payload.Function b) × ((c : Coded) × (slice_get coded b.code ≡ Some c) × Tells (anywhere objects globals) c vs own)
+Traces coded globals objects = TracesUnder under_any coded globals objects
 
 -- a prefix of a run of these declarations and drives
 pub record IsRunOf (decls : List Decl) (drives : List DriveLine) (objects : List Payload) (events : List Event) : Type 0 where
@@ -211,10 +222,10 @@ pub record IsRunOf (decls : List Decl) (drives : List DriveLine) (objects : List
   pub run : IsRunBy (Traces (codes_in decls) globals objects) (plan_of (codes_in decls) asked) objects events
   pub are_objects : AreObjects decls objects
 
--- the journal is a prefix of a run of these declarations and drives
+-- the journal is a prefix of a run of these declarations and drives, and nothing changes in it but the contexts that exceptions get
 pub record IsJournalOf (decls : List Decl) (drives : List DriveLine) (j : Journal) : Type 0 where
   pub run : IsRunOf decls drives j.objects j.events
-  pub unchanged : j.changes ≡ []
+  pub links : HasLinks (λ throws. TracesUnder throws (codes_in decls) run.globals j.objects) j
 
 -- it is one of a script
 abbrev pub IsRun : Script → Journal → Type 0

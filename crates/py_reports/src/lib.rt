@@ -1,4 +1,4 @@
-//! Reports of exceptions as CPython prints them: the chain of causes and contexts, each exception with its traceback.
+//! Reports of exceptions in the form in which CPython prints them: the chain of causes and contexts, each exception with its traceback.
 #![tactic(auto)]
 
 mod caret;

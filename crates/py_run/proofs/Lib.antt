@@ -4,10 +4,17 @@ pub mod FirstLemmas
 pub mod PastLemmas
 -- what was raised, and what exits are told
 pub mod RaisesLemmas
+-- the contexts that come of events
+pub mod LinksLemmas
+pub mod NoLinks
+pub mod AddedLinks
+-- which numbers events name
+pub mod NamedLemmas
 -- a run as objects and drives grow, and as an event comes
 pub mod RunLemmas
 -- lists of generators, as events change them
 pub mod GeneratorsLemmas
+pub mod GivenLemmas
 -- what questions come to
 pub mod CoursesLemmas
 -- arguments that bind, and runs over more signatures

@@ -4,6 +4,7 @@ pub mod First
 pub mod Run
 pub mod Generators
 pub mod Raises
+pub mod Links
 -- what questions come to
 pub mod Calls
 -- what comes of what an exception is made of

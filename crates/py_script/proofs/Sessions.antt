@@ -23,6 +23,7 @@ use Rattle.py_run.specs.Drives.{request_of}
 use Rattle.py_vm.specs.declared.fault.VmFault.{VmFault}
 use Rattle.py_vm.specs.declared.fault.VmFault.TheVariants as fault
 use Rattle.py_run.specs.declared.journal.Journal.{Journal}
+use Rattle.py_vm.specs.Codes.{plain_codes}
 use Rattle.py_vm.specs.Machine.{Machine, done_of, Adds, EndsBy}
 use Rattle.py_meaning.specs.Whole.{AreAsked, AsksThis}
 use Rattle.py_script.specs.Held.{Held, journal_of}
@@ -30,6 +31,7 @@ use Rattle.py_script.specs.Session.{InRun, IsInRun, IsLineThere, IsLoaded, IsOpe
 use Rattle.py_script.specs.Driving.{GoesOn, HasRunOf, IsDriven, MayBeDriven, NamesKnown}
 use Rattle.py_script.proofs.Declarations.{checked_compiled, entry_read}
 use Rattle.py_meaning.proofs.Entries.{class_known, function_known, known_declared}
+use Rattle.py_script.proofs.Traced.{contexts_traced}
 use Rattle.py_script.proofs.Driven.{IsFinished, IsUnderWay, driven_ready, driven_run, is_run_of, loaded_ready, run_grows, same_codes, same_done, same_events_of}
 
 -- a result whose error is this one
@@ -53,7 +55,8 @@ run_of_more decls ds es vm asked r = record {
   are_objects = r.are_objects;
   are_globals = r.are_globals;
   checked = r.checked;
-  unchanged = r.unchanged;
+  links = r.links;
+  below = r.below;
 }
 
 ready_of_more : (decls : List Decl) (ds es : List DriveLine) (s : Held) → IsReady decls ds s → IsReady decls (ds ++ es) s
@@ -81,7 +84,7 @@ journal_of_more decls ds es j has = record {
       run = has.run.run.run;
       are_objects = has.run.run.are_objects;
     };
-    unchanged = has.run.unchanged;
+    links = has.run.links;
   };
   codes = has.codes;
 }
@@ -90,10 +93,15 @@ journal_of_more decls ds es j has = record {
 
 -- what the machine of a session has is a run, and so are the rows of its codes
 pub has_run_of : (decls : List Decl) (drives : List DriveLine) (s : Held) → IsInRun decls drives s.vm → HasRunOf decls drives (journal_of s)
-has_run_of decls drives s (asked, r) = record {
-  run = record { run = is_run_of decls drives s.vm (asked, r); unchanged = r.unchanged };
-  codes = record { compiled = checked_compiled (codes_in decls) s.vm.checked r.checked; globals = s.vm.globals; are_globals = r.are_globals; tells = r.tells };
-}
+unfolding is_run_of
+has_run_of decls drives s (asked, r) =
+    let run = is_run_of decls drives s.vm (asked, r) in
+    let compiled = checked_compiled (codes_in decls) s.vm.checked r.checked in
+    let contexts = contexts_traced (codes_in decls) asked s.vm.globals s.vm.objects (plain_codes s.vm.checked) s.vm.changes s.vm.events compiled run.run.comes r.links.contexts in
+    record {
+      run = record { run = run; links = record { contexts = contexts; alone = r.links.alone } };
+      codes = record { compiled = compiled; globals = s.vm.globals; are_globals = r.are_globals; tells = r.tells; links = r.links };
+    }
 
 pub session_runs : (decls : List Decl) (drives : List DriveLine) (s : Held) → IsSessionOf decls drives s → HasRunOf decls drives (journal_of s)
 session_runs decls drives s of = has_run_of decls drives s (of.ready.asked, of.ready.run)

@@ -13,7 +13,8 @@ use Rattle.py_grammar.specs.Grammar.{Decl, Coded, OfBody, OfRaw, codes_in}
 use Rattle.py_grammar.specs.Script.{decls_of}
 use Rattle.py_run.specs.declared.journal.Journal.{Journal}
 use Rattle.py_run.specs.Coming.{EachTells}
-use Rattle.py_vm.specs.RowsOf.{RowsOf}
+use Rattle.py_run.specs.Links.{HasLinks}
+use Rattle.py_vm.specs.RowsOf.{RowsOf, RowsUnder}
 use Rattle.py_meaning.specs.Whole.{AreGlobals}
 use Rattle.py_raw.specs.declared.earlier.Earlier.{Earlier}
 use Rattle.py_raw.specs.Assembled.{IsAssembled}
@@ -37,12 +38,13 @@ pub record AreCompiled (coded : List Coded) (cs : Codes) : Type 0 where
   pub fit : (i : ℕ) (k : Coded) → slice_get coded i ≡ Some k → IsPlacedCode coded cs i k
 
 -- the journal's codes are those that are declared, in order, and each activation's own events, with their units, are a run of
--- the rows of its code
+-- the rows of its code; what such runs handle where an exception is thrown in becomes its context
 pub record RunsCodesOf (decls : List Decl) (j : Journal) : Type 0 where
   pub compiled : AreCompiled (codes_in decls) j.codes
   pub globals : Obj
   pub are_globals : AreGlobals decls j.objects globals
   pub tells : EachTells (RowsOf j.codes globals j.objects) j.events
+  pub links : HasLinks (λ throws. RowsUnder throws j.codes globals j.objects) j
 
 -- those of a script
 abbrev pub RunsItsCodes : Script → Journal → Type 0

@@ -44,7 +44,7 @@ use Rattle.py_vm.specs.Generators.{modes_of}
 use Rattle.py_vm.specs.Machine.{plan_of}
 use Rattle.py_vm.specs.Raises.{Raises}
 use Rattle.py_vm.specs.Stands.{AreApart, IsApart, IsHalted, IsInside, IsOutside, Keeps, Plays, asking, caller_acts, caller_frames, first_slot, slots_in, stacked}
-use Rattle.py_vm.specs.Turns.{past_at, got_by, heard_by, result_by, result_of, IsNoted, IsNotedBy, KeepsValue, Replies, Turns}
+use Rattle.py_vm.specs.Turns.{past_at, got_by, heard_by, result_by, result_of, IsNoted, IsNotedBy, KeepsValue, Replies, Turns, raising_in}
 use Rattle.py_vm.proofs.PlaysLemmas.{plays_hears, setting_in}
 use Rattle.py_vm.proofs.JournalLemmas.{next_number, top_is}
 use Rattle.py_vm.proofs.ChainLemmas.{AreHalted, AreOthers, acts_still, each_still, inside_halted, inside_on, zero_outside}
@@ -93,7 +93,7 @@ IsFold m d May list =
     → answered (question (plan_of m.world.codes asked) (state_after start m.events)) (state_after start m.events).phase (length (state_after start m.events).made) v (modes_of m.world.generators) ≡ modes_of list
 
 -- what an answer that is as it is wanted raises is an exception
-raised_exception : (objects : List Payload) (q : Request) (g : GotAnswer) → IsAnswer objects (wanted q) g → IfThere (IsException objects) (raised_by (Some q) g)
+pub raised_exception : (objects : List Payload) (q : Request) (g : GotAnswer) → IsAnswer objects (wanted q) g → IfThere (IsException objects) (raised_by (Some q) g)
 raised_exception objects request.Handled (got.Value v) is = is
 raised_exception objects (request.Raisable u) (got.Value v) is = is
 raised_exception objects _ (got.Value v) is = tt
@@ -101,12 +101,12 @@ raised_exception objects q (got.Stop v) is = tt
 raised_exception objects q (got.Raise e) is = is
 
 -- it gets the answer to what it asked, which is as it is wanted and names objects
-pub got_law : (m : Core) (d : Drive) (s : Stage) (h : Halted) (hs : List Halted) (store : Kept) (list : List KeptGenerator) (raises : Raises) (w : Answer) (Other : ℕ → Type 0) → Keeps m d s → IsGrown m.world.store store → (waits : Waiting m d h hs)
+pub got_law : (m : Core) (d : Drive) (s : Stage) (h : Halted) (hs : List Halted) (store : Kept) (list : List KeptGenerator) (raises : Raises) (raising : Option PyBaseExceptionRef) (w : Answer) (Other : ℕ → Type 0) → Keeps m d s → IsGrown m.world.store store → (waits : Waiting m d h hs)
     → IsAnswer store.made (wanted waits.halted.question.request) (got_of w) → AllBelow (length store.made) (got_numbers (got_of w))
     → ((asked : List Posed) → IsNext m d asked → (reply : Reply) × IsAnswered (plan_of m.world.codes asked) store.made (past_at m) reply × GivesBody store.made m.events reply (got_of w))
     → IsChange m Other store (event.Got h.running.act (got_of w)) list → AreOthers Other hs → Other h.running.act → IsFold m d (λ v. v ≡ value_of (got_of w)) list
-    → IsNotedBy m.events h w m.raises raises → Turns m d s None (got_by (record m { world = record m.world { store = store; generators = list }; callers = hs; raises = raises }) h.running w)
-got_law m d s h hs store list raises w Other k grown waits as_wanted below replied change others other fold (act, asked, own, at, entry, noted) =
+    → IsNotedBy m.events h w m.raises raises → Turns m d s None (got_by (record m { world = record m.world { store = store; generators = list }; callers = hs; raises = raises; raising = raising }) h.running w)
+got_law m d s h hs store list raises raising w Other k grown waits as_wanted below replied change others other fold (act, asked, own, at, entry, noted) =
     let r : Running = h.running in
     let e : Event = event.Got r.act (got_of w) in
     let old = waits.halted.plays in
@@ -130,7 +130,7 @@ got_law m d s h hs store list raises w Other k grown waits as_wanted below repli
     let both : Some (event.Ask act asked own at) ≡ Some (event.Ask q.act q.request q.own q.at) = sym entry ∙ q.entry in
     let same : asked ≡ q.request = cc both in
     let raise : Option Obj = raised_by (Some q.request) (got_of w) in
-    next_law m d s e None (got_by (record m { world = record m.world { store = store; generators = list }; callers = hs; raises = raises }) r w) k (record {
+    next_law m d s e None (got_by (record m { world = record m.world { store = store; generators = list }; callers = hs; raises = raises; raising = raising }) r w) k (record {
       grown = grown_longer m.world.store store grown;
       done = k.follows.done;
       phase = refl;
@@ -186,8 +186,8 @@ result_law m d s store list w Other k none alone grown below replied change fold
 -- what a reply names, its result does
 said_below : (old new : List Payload) (reply : Reply) (w : MadeReply) → IsReplied old new reply w → AllBelow (length new) (result_numbers (result_of w))
 said_below old new reply (made.Value v) x = (x.below, tt)
-said_below old new reply (made.Fresh e) x = (x.below, tt)
-said_below old new reply (made.Passed e) x = (x.below, tt)
+said_below old new reply (made.Fresh e) x = (x.0.below, tt)
+said_below old new reply (made.Passed e) x = (x.0.below, tt)
 said_below old new reply (made.Yields v) x = (x.1, tt)
 said_below old new reply (made.Stops v) x = x.1
 said_below old new reply made.Closes x = tt
@@ -195,8 +195,8 @@ said_below old new reply made.Closes x = tt
 -- what gives a reply gives the result of a drive
 gives_result : (old new : List Payload) (before : List Event) (reply : Reply) (w : MadeReply) → AreNamed old before → IsReplied old new reply w → GivesDrive new before reply (result_of w)
 gives_result old new before reply (made.Value v) named x = x.gives before named
-gives_result old new before reply (made.Fresh e) named x = x.gives before named
-gives_result old new before reply (made.Passed e) named x = x.gives before named
+gives_result old new before reply (made.Fresh e) named x = x.0.gives before named
+gives_result old new before reply (made.Passed e) named x = x.0.gives before named
 gives_result old new before reply (made.Yields v) named x = x.0
 gives_result old new before reply (made.Stops v) named x = x.0
 gives_result old new before reply made.Closes named x = x
@@ -248,7 +248,7 @@ replies_law m d s [] store list reply w a m' Other k grown alone fits answers re
 replies_law m d s (h ∷ hs) store list reply w a m' Other k grown waits fits answers replied change others fold none (is_answer, (store', answer, (more, keeps, gives), (raises, noted, is))) =
     let all : IsGrown m.world.store store' = grown_trans m.world.store store store' grown more in
     let given : GivesReply m.world.store.made store'.made reply answer = gives m.world.store.made reply (objects_grow m.world.store store grown) (grown.objects.fit k.stored.readable.fit) replied in
-    let turned = got_law m d s h hs store' list raises answer Other k all waits (fits store' answer more given) given.below
+    let turned = got_law m d s h hs store' list raises (raising_in m.events h answer) answer Other k all waits (fits store' answer more given) given.below
     (λ asked next. (reply, answers store'.made more.objects asked next, given.gives m.events k.told.named)) (change store' (event.Got h.running.act (got_of answer)) all refl more.objects) others.1 others.0
     (λ asked v next same. fold asked v next (subst (MayBe w) (sym same) (got_may w answer keeps))) noted in
     subst (λ x. Turns m d s x m') (sym is_answer) (subst (Turns m d s None) (sym is) turned)

@@ -4,6 +4,7 @@ use Rattle.std.specs.Prelude.{Option, None, drop, ◌||◌, ◌==◌}
 use Rattle.py_code.specs.declared.flags.TheConstants.CodeFlags.{IS_GENERATOR, IS_COROUTINE}
 use Rattle.py_check.specs.WholeCode.{counts_if}
 use Rattle.py_check.specs.declared.note.Kind.TheVariants as kind
+use Rattle.py_rows.specs.declared.expect.Wanted.TheVariants as want
 use Rattle.py_objects.specs.declared.refs.PyBaseExceptionRef.{PyBaseExceptionRef}
 use Rattle.py_objects.specs.declared.payload.Payload.{Payload}
 use Rattle.py_objects.specs.declared.payload.Payload.TheVariants as payload
@@ -28,7 +29,7 @@ use Rattle.py_rows.specs.Answers.{HasKind}
 use Rattle.py_rows.specs.States as rows
 use Rattle.py_rows.specs.States.{State as FrameState}
 use Rattle.py_rows.specs.RunOfRows.{is_thrown_into, Runs, started, none as still}
-use Rattle.py_rows.specs.Laws.{IsMoving}
+use Rattle.py_rows.specs.Laws.{IsMoving, RaisedThere}
 use Rattle.py_rows.specs.Signature.{kind_by}
 use Rattle.py_frame.specs.declared.input.Input.TheVariants as input
 use Rattle.py_frame.specs.Frames.{handed}
@@ -60,6 +61,10 @@ use Rattle.py_vm.proofs.NextLemmas.{next_law, played_told, slots_heard, still_ra
 use Rattle.py_vm.proofs.QuestionsLemmas.{IsOpen, resumes_there}
 use Rattle.py_vm.proofs.AskedLemmas.{AskedBy}
 use Rattle.py_vm.proofs.TurnsLemmas.{apart_of, frames_of, slots_of, stack_of, IsTheirs}
+use Rattle.py_rows.specs.Slot.{KeepsSlot}
+use Rattle.py_rows.proofs.RunLemmas.{runs_keep_slot}
+use Rattle.py_rows.specs.Fitting.{FitsBut, FitsAt}
+use Rattle.py_rows.proofs.HandledLemmas.{handled_there}
 
 -- a frame that hasn't begun, and of whose run nothing was told, is where a run begins that has this in the slot
 module _ (m : Core) (r : Running) (f : IsFresh m.world.codes m.globals m.world.store.made m.events r) (slot : Option PyBaseExceptionRef) where
@@ -149,6 +154,7 @@ pub record IsReadyFor (m : Core) (objects : List Payload) (s : Suspended) (h : R
   pub run : Runs m.world.store.made (setting_in m.world.codes m.globals plays.code s.running.frame.closure) (started plays.code.code None plays.activation.args) plays.told (handed s.slot s.running.frame.state)
   pub left : (s.running.frame.state.wants ≡ expect.Start) ⊎ (s.slot ≡ s.running.frame.state.slot)
   pub slot_low : AllBelow (length m.world.store.made) (number_if s.slot)
+  pub slot_there : RaisedThere m.world.store.made s.slot
   pub expects : Expects objects (setting_in m.world.codes m.globals plays.code s.running.frame.closure) s.running.frame.state.wants (input_of h)
   pub moves : IsMoving (taken (input_of h) s.running.frame.state.wants)
   pub named : AllBelow (length objects) (how_numbers h)
@@ -168,12 +174,22 @@ unentered_ready m objects s h x named expects moves =
       run = subst (λ slot. Runs m.world.store.made (setting_in m.world.codes m.globals f.plays.code s.running.frame.closure) (started f.plays.code.code None f.plays.activation.args) f.plays.told (handed slot s.running.frame.state)) (sym x.slot) (begun_run m s.running f None);
       left = inl starts;
       slot_low = subst (λ slot. AllBelow (length m.world.store.made) (number_if slot)) (sym x.slot) tt;
+      slot_there = subst (RaisedThere m.world.store.made) (sym x.slot) tt;
       expects = subst (λ y. Expects objects (setting_in m.world.codes m.globals f.plays.code s.running.frame.closure) y (input_of h)) (sym starts) (expects (setting_in m.world.codes m.globals f.plays.code s.running.frame.closure) flags);
       moves = subst (λ y. IsMoving (taken (input_of h) y)) (sym starts) moves;
       named = named;
       kind = x.kind;
       kind_is = x.kind_is;
     }
+
+-- what is in the slot of one that was left by a yield is an exception
+left_there : (m : Core) (s : Suspended) → IsLeft m.world.codes m.globals m.world.store.made m.events s → RaisedThere m.world.store.made s.slot
+left_there m s x =
+    let p = x.plays in
+    let state = s.running.frame.state in
+    let keeps : KeepsSlot None state = runs_keep_slot m.world.store.made (setting_in m.world.codes m.globals p.code s.running.frame.closure) None p.activation.args state p.told p.run in
+    let fits : FitsBut m.world.store.made p.code (want.Of kind.Any) state = subst (λ (w : Expect). FitsAt m.world.store.made p.code w state) x.waits p.running.fits in
+    subst (RaisedThere m.world.store.made) (sym (x.slot ∙ keeps.slot)) (handled_there m.world.store.made None state.blocks fits.left.blocks fits.has.blocks tt)
 
 -- one that was left by a yield
 left_ready : (m : Core) (objects : List Payload) (s : Suspended) (h : ResumeHow) → IsLeft m.world.codes m.globals m.world.store.made m.events s → AllBelow (length objects) (how_numbers h)
@@ -183,6 +199,7 @@ left_ready m objects s h x named expects moves = record {
   run = subst (λ slot. Runs m.world.store.made (setting_in m.world.codes m.globals x.plays.code s.running.frame.closure) (started x.plays.code.code None x.plays.activation.args) x.plays.told (handed slot s.running.frame.state)) (sym x.slot) x.plays.run;
   left = inr x.slot;
   slot_low = subst (λ slot. AllBelow (length m.world.store.made) (number_if slot)) (sym x.slot) x.plays.running.below.in_slot;
+  slot_there = left_there m s x;
   expects = subst (λ y. Expects objects (setting_in m.world.codes m.globals x.plays.code s.running.frame.closure) y (input_of h)) (sym x.waits) (expects (setting_in m.world.codes m.globals x.plays.code s.running.frame.closure));
   moves = subst (λ y. IsMoving (taken (input_of h) y)) (sym x.waits) moves;
   named = named;
@@ -207,7 +224,7 @@ thrown_ready m objects x s e Entered takes keeps waits raises below = absurd tak
 thrown_ready m objects x s e Closed takes keeps waits raises below = absurd takes
 
 -- so is each that a question enters
-enters_ready : (m : Core) (q : Request) (store : Kept) (x : KeptGenerator) (s : Suspended) (h : ResumeHow) → KeepsIn m.world.codes m.globals m.world.store.made m.events x.generator.mode x → x.suspended ≡ Some s
+pub enters_ready : (m : Core) (q : Request) (store : Kept) (x : KeptGenerator) (s : Suspended) (h : ResumeHow) → KeepsIn m.world.codes m.globals m.world.store.made m.events x.generator.mode x → x.suspended ≡ Some s
     → EntersBy (setting_at m) m.world.store.made store.made q x h → IsReadyFor m store.made s h × (s.running.act ≡ x.act) × IsStill x.generator.mode
 enters_ready m q store x s how.Start keeps waits (comes, mode) =
     let (t, is, act, unentered) = subst (λ k. KeepsIn m.world.codes m.globals m.world.store.made m.events k x) mode keeps in

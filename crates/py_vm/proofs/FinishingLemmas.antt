@@ -120,7 +120,7 @@ asker m d kind a (h ∷ hs) stack frames slots apart inside = record {
     one_question r q same = cc same
 
 -- what is answered to a question of which anything is wanted is so
-any_fits : (m : Core) (d : Drive) (store : Kept) (reply : Reply) (hs : List Halted) (asked_by : AskedBy m d hs) (q : Request) → IsTheirs m d hs asked_by q → wanted q ≡ want.Of kind.Any → FitsWho m d store reply hs asked_by
+pub any_fits : (m : Core) (d : Drive) (store : Kept) (reply : Reply) (hs : List Halted) (asked_by : AskedBy m d hs) (q : Request) → IsTheirs m d hs asked_by q → wanted q ≡ want.Of kind.Any → FitsWho m d store reply hs asked_by
 any_fits m d store reply [] alone q theirs any = tt
 any_fits m d store reply (h ∷ hs) waits q theirs any = λ store' a grown gives.
     subst (λ (w : Wanted). IsAnswer store'.made w (got_of a)) (sym (ap wanted theirs ∙ any)) (any_answer store'.made a gives.heard gives.raises)
@@ -138,7 +138,7 @@ apart_who n at (h ∷ hs) number apart = other_way h.running.act n apart.0
 -- ---- what is answered by the call of a function
 
 -- it wants any object
-calling_any : (q : Request) → IsCalling q → wanted q ≡ want.Of kind.Any
+pub calling_any : (q : Request) → IsCalling q → wanted q ≡ want.Of kind.Any
 calling_any (request.Call f vs named) calls = refl
 calling_any (request.Enter m) calls = refl
 calling_any (request.Exit x c e t) calls = refl
@@ -181,7 +181,7 @@ module _ (m : Core) (d : Drive) (r : Running) (f : Obj) (kind : CoroKind) (x : K
   abbrev body : CoroBody
   body = record { activation = r.act; name = new.body.name; kind = kind }
 
-  grown : IsGrown m.world.store store
+  pub grown : IsGrown m.world.store store
   grown = added_grown m.world.store store (payload.Generator body) new.added refl refl (λ fit. tt) (λ fit. tt)
 
   number : r.act ≡ length (state_after start m.events).made
@@ -206,7 +206,7 @@ module _ (m : Core) (d : Drive) (r : Running) (f : Obj) (kind : CoroKind) (x : K
       subst (λ (s : Kept). HasPayload s.made x.object (payload.Generator body)) (sym new.added) (subst (λ o. HasPayload more o (payload.Generator body)) (sym new.object) (newest m.world.store.made (payload.Generator body)))
 
   -- the value that is answered
-  replied : IsReplied m.world.store.made store.made (Creates body) (made.Value x.object)
+  pub replied : IsReplied m.world.store.made store.made (Creates body) (made.Value x.object)
   replied = record {
     plain = refl;
     gives = λ before named. (past_is_new m.world.store.made store.made before x.object.number grown.objects named (subst (λ n. length m.world.store.made ≤ n) (sym (ap (λ (o : Obj). o.number) new.object)) (omega arith)), has);
@@ -252,7 +252,7 @@ module _ (m : Core) (d : Drive) (r : Running) (f : Obj) (kind : CoroKind) (x : K
 -- ---- an activation was left
 
 -- what asks of a generator wants any object
-wants_any : (q : Request) (g : Obj) → generator_asked q ≡ Some g → wanted q ≡ want.Of kind.Any
+pub wants_any : (q : Request) (g : Obj) → generator_asked q ≡ Some g → wanted q ≡ want.Of kind.Any
 wants_any (request.Send h v) g asks = refl
 wants_any (request.Throw h c v t) g asks = refl
 wants_any (request.Close h) g asks = refl
@@ -287,11 +287,11 @@ left_then m objects e s hs false (left.Return v) grows mine apart leaves is = ab
 left_then m objects e s hs false (left.Raise x) grows mine apart leaves is = absurd (cc is)
 
 -- a call is answered how its activation was left
-call_replied : (m : Core) (s : Suspended) (how : CoroEnd) → s.running.kind ≡ None → IsEnding m.world.store.made how → LeavesAs m.world.codes m.globals m.world.store.made m.events s how
+pub call_replied : (m : Core) (s : Suspended) (how : CoroEnd) → s.running.kind ≡ None → IsEnding m.world.store.made how → LeavesAs m.world.codes m.globals m.world.store.made m.events s how
     → (reply : Reply) × LeavesCalled how reply × IsReplied m.world.store.made m.world.store.made reply (passed how)
 call_replied m s (left.Yield v) plain ending leaves = absurd (let clash : Some leaves.kind ≡ None = sym leaves.kind_is ∙ plain in cc clash)
 call_replied m s (left.Return v) plain ending leaves = (Is v, refl, record { plain = refl; gives = λ before named. refl; below = ending })
-call_replied m s (left.Raise e) plain ending leaves = (Passes (This e), refl, record { plain = refl; gives = λ before named. refl; below = ending.0; raises = ending.1 })
+call_replied m s (left.Raise e) plain ending leaves = (Passes (This e), refl, (record { plain = refl; gives = λ before named. refl; below = ending.0; raises = ending.1 }, refl))
 
 module _ (m : Core) (d : Drive) (s : Suspended) (how : CoroEnd) (k : Keeps m d (stage.Due s how)) where
   abbrev asks : Asker m d m.callers s.running.kind s.running.act
@@ -323,7 +323,7 @@ module _ (m : Core) (d : Drive) (s : Suspended) (how : CoroEnd) (k : Keeps m d (
       → (a : Option DriveAnswer) (m' : Core) → Replies (record m { world = record m.world { store = store; generators = list } }) w m.callers a m' → Turns m d (stage.Due s how) a m'
   finished_generator kind enters store list w is_settled a m' replies =
       let g : Obj = enters.object in
-      let (x, here, body, has, answer, finishes, grown, changes, replied) = subst (λ o. IsSettled m s how o store list w) enters.asks is_settled in
+      let (x, here, body, has, answer, finishes, grown, changes, replied, passed) = subst (λ o. IsSettled m s how o store list w) enters.asks is_settled in
       let both : Some x ≡ Some enters.kept = sym here ∙ enters.is_kept in
       let one : x ≡ enters.kept = cc both in
       let closing : x.generator.closing ≡ is_close asks.q = ap (λ (y : KeptGenerator). y.generator.closing) one ∙ enters.closing in

@@ -26,6 +26,7 @@ use Rattle.py_objects.proofs.GrownLemmas.{added_made}
 use Rattle.py_objects.specs.Growth.{with_object}
 use Rattle.py_objects.proofs.NewLemmas.{added_has}
 use Rattle.py_objects.specs.FrameEntries.{frames_in}
+use Rattle.py_objects.specs.Originals.{AreMarked, ChangesBelow}
 
 -- the names that a machine begins with
 first_declared : (x : Name) → value_of x (declarations_of first_classes) ≡ declared first_objects x
@@ -116,7 +117,11 @@ start_idle m no_events begins no_codes names none_done none_made no_callers no_g
           dict = ([], begins.globals_are);
           names_are = λ x. ap (value_of x) names ∙ first_declared x ∙ ap (λ os. declared os x) (sym begins.objects);
         };
-        marked = omega (arith, begins.mark);
+        marked = record {
+          mark = omega (arith, begins.mark);
+          past = subst (AreMarked (length m.events)) (sym begins.unchanged) tt;
+          below = subst (ChangesBelow (length m.world.store.made)) (sym begins.unchanged) tt;
+        };
         runnable = record {
           each = λ i c here. absurd (let none : None ≡ Some c = sym (ap (λ l. slice_get l i) no_codes) ∙ here in cc none);
           coded = λ i p here. subst (λ n. IsCoded n p) (ap length (sym no_codes)) (first_coded i p (ap (λ l. slice_get l i) (sym begins.objects) ∙ here));

@@ -5,6 +5,7 @@ use Rattle.std.proofs.lemmas.Option.{slice_get_within}
 use Rattle.py_objects.specs.declared.refs.PyBaseExceptionRef.{PyBaseExceptionRef}
 use Rattle.py_objects.specs.declared.refs.PyTracebackRef.{PyTracebackRef}
 use Rattle.py_objects.specs.declared.payload.Payload.{Payload}
+use Rattle.py_objects.specs.declared.payload.Payload.TheVariants as payload
 use Rattle.py_objects.specs.declared.edit.Change.{Change}
 use Rattle.py_objects.specs.declared.event.Event.{Event}
 use Rattle.py_objects.specs.declared.event.Event.TheVariants as event
@@ -12,7 +13,7 @@ use Rattle.py_objects.specs.declared.event.DriveAnswer.{DriveAnswer}
 use Rattle.py_objects.specs.Objects.{result_numbers, AllBelow, AreNamed}
 use Rattle.py_objects.specs.Edits.{Kept}
 use Rattle.py_objects.specs.Growth.{Grows, GrowsPlainly}
-use Rattle.py_objects.proofs.GrowthLemmas.{payload_grown, plainly_grows, grows_plainly_refl}
+use Rattle.py_objects.proofs.GrowthLemmas.{payload_grown, plainly_grows, grows_plainly_refl, length_grown}
 use Rattle.py_objects.proofs.GrownLemmas.{grown_refl, longer_refl}
 use Rattle.py_exceptions.specs.Tracebacks.{traceback_object}
 use Rattle.py_answers.specs.Answers.{Reply, GivesDrive}
@@ -44,9 +45,13 @@ use Rattle.py_vm.proofs.ChainLemmas.{each_still, zero_outside}
 use Rattle.py_vm.proofs.JournalLemmas.{marked_on, named_still, next_number}
 use Rattle.py_vm.proofs.NextLemmas.{done_counted, drive_told, still_raised}
 use Rattle.py_vm.proofs.RowsOfLemmas.{tells_still}
-use Rattle.py_vm.proofs.StandsLemmas.{grown_idle, idle_again, idle_callers, kept_idle, restored_idle}
+use Rattle.py_vm.proofs.StandsLemmas.{grown_idle, idle_again, idle_callers, kept_idle, restored_idle, marked_append}
 use Rattle.py_vm.proofs.TurnsLemmas.{begun_law}
 use Rattle.py_objects.specs.FrameEntries.{frames_in}
+use Rattle.py_vm.specs.Contexts.{IsMarked}
+use Rattle.py_objects.specs.Originals.{AreMarked, ChangesBelow}
+use Rattle.py_objects.proofs.BelowLemmas.{ChangesBelow-more, ChangesBelow-append}
+use Rattle.py_objects.proofs.OriginalsLemmas.{AreMarked-later}
 
 -- the drive of a script that is asked in its place, where it doesn't matter which
 abbrev any_drive : Drive
@@ -128,6 +133,20 @@ unread_by objects objects' cs x n (form.Raised e) grows is unread = subst (Chang
 unread_by objects objects' cs x n (form.Made e None) grows is unread = subst (ChangeUnread objects') (sym (append-nil cs)) (changes_grown objects objects' cs grows unread)
 unread_by objects objects' cs x n (form.Made e (Some t)) grows (reply, normalizes, value, read, exception, (b, has)) unread =
     change_unread objects' cs _ (inr (exception, inl (link.Traceback, traceback_object (Some t), refl, (b, payload_grown objects objects' _ _ grows has)))) (changes_grown objects objects' cs grows unread)
+
+-- each is of that many events, and names what is there
+changes_marked : (f : Formed) (n k : ℕ) → n ≤ k → AreMarked k (changes_by n f)
+changes_marked (form.Raised e) n k low = tt
+changes_marked (form.Made e None) n k low = tt
+changes_marked (form.Made e (Some t)) n k low = (low, tt)
+
+changes_below : (objects objects' : List Payload) (x : Makings) (f : Formed) (n : ℕ) (cs : List Change) → Grows objects objects' → IsFormOf objects objects' x f → ChangesBelow (length objects') cs
+    → ChangesBelow (length objects') (cs ++ changes_by n f)
+changes_below objects objects' x (form.Raised e) n cs grows is below = subst (ChangesBelow (length objects')) (sym (append-nil cs)) below
+changes_below objects objects' x (form.Made e None) n cs grows is below = subst (ChangesBelow (length objects')) (sym (append-nil cs)) below
+changes_below objects objects' x (form.Made e (Some t)) n cs grows (reply, normalizes, value, read, (y, has_e), (b, has)) below =
+    ChangesBelow-append (length objects') cs _ below (slice_get_within objects' e.number (payload.Exception y) has_e)
+    (slice_get_within objects' _ (payload.Traceback b) (payload_grown objects objects' _ (payload.Traceback b) grows has), tt)
 
 -- what its result names is there
 answer_below : (old new : List Payload) (x : Makings) (f : Formed) → IsFormOf old new x f → AllBelow (length new) (result_numbers (answer_of f))
@@ -235,7 +254,17 @@ module _ (m : Core) (idle : IsIdle m) (x : Makings) where
     formed_stands =
         let more : length ((m.events ++ first ∷ []) ++ last ∷ []) ≡ length (m.events ++ first ∷ []) + 1 = length-append (m.events ++ first ∷ []) (last ∷ []) in
         let unread : ChangeUnread store.made store.changes = subst (ChangeUnread store.made) (sym changes) (unread_by m.world.store.made store.made m.world.store.changes x (length (m.events ++ first ∷ [])) f grows is (kept_idle m idle).stored.readable.unread) in
-        restored_idle then store m.stage idle.idle refl unread (omega (arith, more, marked)) then_stands
+        let count : ℕ = length (m.events ++ first ∷ []) in
+        let last_count : ℕ = length ((m.events ++ first ∷ []) ++ last ∷ []) in
+        let k : IsMarked (length m.events) m.world.store = (kept_idle m idle).marked in
+        let one : count ≡ length m.events + 1 = length-append m.events (first ∷ []) in
+        restored_idle then store m.stage idle.idle refl unread (record {
+          mark = omega (arith, more, marked);
+          past = subst (AreMarked last_count) (sym changes) (marked_append last_count m.world.store.changes (changes_by count f)
+              (AreMarked-later (length m.events) last_count m.world.store.changes (omega (arith, one, more)) k.past) (changes_marked f count last_count (omega (arith, more))));
+          below = subst (ChangesBelow (length store.made)) (sym changes) (changes_below m.world.store.made store.made x f count m.world.store.changes grows is
+              (ChangesBelow-more (length m.world.store.made) (length store.made) m.world.store.changes (length_grown m.world.store.made store.made grows) k.below));
+        }) then_stands
 
     -- a past with its events
     abbrev past_with : State → List Generator → Past
@@ -286,7 +315,7 @@ module _ (m : Core) (idle : IsIdle m) (works : m.failed ≡ false) (x : Makings)
   can_form below =
       let k = kept_idle m idle in
       let more : length (m.events ++ event.Drive (m.done + 1) ∷ []) ≡ length m.events + 1 = length-append m.events (event.Drive (m.done + 1) ∷ []) in
-      let marked : m.world.store.mark ≤ length m.events = k.marked in
+      let marked : m.world.store.mark ≤ length m.events = k.marked.mark in
       record { readable = k.stored.readable; classes = k.stored.classes; below = below; marked = omega (arith, more, marked) }
 
   -- no turn is left

@@ -1,5 +1,5 @@
 -- What comes of an activation that was left, or that was made.
-use Rattle.std.proofs.Common.{◌≡◌, ◌<◌, ◌++◌, ℕ, List, [], ◌∷◌, Bool, true, false, Some, inl, inr, refl, sym, ap, subst, ◌∙◌, length, arith}
+use Rattle.std.proofs.Common.{◌≡◌, ◌<◌, ◌++◌, ℕ, List, [], ◌∷◌, Bool, true, false, Some, inl, inr, refl, sym, ap, subst, ◌∙◌, length, arith, eq-eqb, ◌||◌}
 use Rattle.std.specs.Prelude.{Option, None}
 use Rattle.std.proofs.lemmas.Bool.Decides.{eqb_tells}
 use Rattle.py_objects.specs.declared.refs.PyBaseExceptionRef.{PyBaseExceptionRef}
@@ -13,7 +13,7 @@ use Rattle.py_objects.specs.declared.error_kind.ErrorKind.TheVariants.{RuntimeEr
 use Rattle.py_objects.specs.declared.request.Request.{Request}
 use Rattle.py_objects.specs.declared.event.Event.{Event}
 use Rattle.py_objects.specs.declared.event.DriveAnswer.{DriveAnswer}
-use Rattle.py_objects.specs.Objects.{Obj, HasPayload, as_object, numbers_if, AllBelow, IsException}
+use Rattle.py_objects.specs.Objects.{Obj, HasPayload, as_object, numbers_if, AllBelow, IsException, is_among}
 use Rattle.py_objects.specs.Edits.{Kept}
 use Rattle.py_objects.specs.Growth.{GrowsPlainly, IsGrown}
 use Rattle.py_objects.specs.Values.{is_none}
@@ -46,10 +46,10 @@ use Rattle.py_vm.specs.declared.stage.Suspended.{Suspended}
 use Rattle.py_vm.specs.declared.stage.Stage.{Stage}
 use Rattle.py_vm.specs.declared.machinery.Core.{Core}
 use Rattle.py_vm.specs.Codes.{Checked}
-use Rattle.py_vm.specs.Courses.{IsReplied, RepliesRaise}
+use Rattle.py_vm.specs.Courses.{IsReplied, RepliesRaise, IsPassedBy}
 use Rattle.py_vm.specs.Generators.{changed_at, generator_asked, kept_at, kept_by, kept_in, settled, IsRunningNow}
 use Rattle.py_vm.specs.Stands.{IsEnding}
-use Rattle.py_vm.specs.Turns.{got_by, passed, AreReady, Finished, FirstAsks, IsAnswerTo, IsSettled, NotedOne, Questioned, Replies, SettledOne, Started}
+use Rattle.py_vm.specs.Turns.{got_by, passed, AreReady, Finished, FirstAsks, IsAnswerTo, IsSettled, NotedOne, Questioned, Replies, SettledOne, Started, end_numbers}
 use Rattle.py_vm.proofs.CallsLemmas.{raise_given}
 
 -- ---- how an activation was left
@@ -121,8 +121,9 @@ passes_given objects e (low, raises) = record { plain = refl; gives = λ before 
 module _ (m : Core) (g : Obj) (s : Suspended) (how : CoroEnd) (x : KeptGenerator) (here : kept_at m.world.generators g ≡ Some x) (a : CoroAnswer) (finishes : Finishes m.world.store.made x.generator.kind x.generator.closing how a)
     (body : CoroBody) (has : HasPayload m.world.store.made g (payload.Generator body)) where
   pub settled_one : (store : Kept) (list : List KeptGenerator) (w : MadeReply) → IsGrown m.world.store store → list ≡ changed_at g (settled s how) m.world.generators
-      → IsReplied m.world.store.made store.made (reply_by (word_of body.kind) a) w → SettledOne m g s how w (record m { world = record m.world { store = store; generators = list } })
-  settled_one store list w grown changes replied = (store, list, (x, here, body, has, a, finishes, grown, changes, replied), refl)
+      → IsReplied m.world.store.made store.made (reply_by (word_of body.kind) a) w → IsPassedBy (end_numbers how) w
+      → SettledOne m g s how w (record m { world = record m.world { store = store; generators = list } })
+  settled_one store list w grown changes replied passed = (store, list, (x, here, body, has, a, finishes, grown, changes, replied, passed), refl)
 
 -- what it answers without a new exception
 abbrev pub IsAtOnce : CoroAnswer → MadeReply → Type 0
@@ -137,9 +138,31 @@ replied_at_once : (objects : List Payload) (word : List ℕ) (a : CoroAnswer) (w
 replied_at_once objects word (answer.Value v) w there is = subst (IsReplied objects objects (reply_by word (answer.Value v))) (sym is) (refl, there)
 replied_at_once objects word (answer.Stop v) w there is = subst (IsReplied objects objects (reply_by word (answer.Stop v))) (sym is) (refl, there)
 replied_at_once objects word answer.Closed w there is = subst (IsReplied objects objects (reply_by word answer.Closed)) (sym is) refl
-replied_at_once objects word (answer.Raise e) w there is = subst (IsReplied objects objects (reply_by word (answer.Raise e))) (sym is) (passes_given objects e there)
+replied_at_once objects word (answer.Raise e) w there is = subst (IsReplied objects objects (reply_by word (answer.Raise e))) (sym is) (passes_given objects e there, refl)
 replied_at_once objects word (answer.Convert e stop) w there is = absurd is
 replied_at_once objects word answer.Ignored w there is = absurd is
+
+-- an exception that it raises then is the one that it was left by
+passed_at_once : (objects : List Payload) (kind : CoroKind) (closing : Bool) (how : CoroEnd) (a : CoroAnswer) (w : MadeReply) → IsAtOnce a w → Finishes objects kind closing how a → IsPassedBy (end_numbers how) w
+passed_at_once objects kind closing how (answer.Value v) w is finishes = subst (IsPassedBy (end_numbers how)) (sym is) tt
+passed_at_once objects kind closing how (answer.Stop v) w is finishes = subst (IsPassedBy (end_numbers how)) (sym is) tt
+passed_at_once objects kind closing how answer.Closed w is finishes = subst (IsPassedBy (end_numbers how)) (sym is) tt
+passed_at_once objects kind closing how (answer.Raise e) w is finishes = subst (IsPassedBy (end_numbers how)) (sym is) (by how closing finishes)
+  where
+    by : (how : CoroEnd) (closing : Bool) → Finishes objects kind closing how (answer.Raise e) → is_among e.number (end_numbers how) ≡ true
+    by (left.Yield v) true is = absurd (cc is)
+    by (left.Yield v) false is = absurd (cc is)
+    by (left.Return v) true (p, has, is) = absurd (cc is)
+    by (left.Return v) false (p, has, is) = absurd (cc is)
+    by (left.Raise x) closing (stop, exits, is_converted, of_exit, is) = raises closing stop exits is
+      where
+        raises : (closing : Bool) (stop : Option ErrorKind) (exits : Bool) → answer.Raise e ≡ raised closing x stop exits → is_among e.number (x.number ∷ []) ≡ true
+        raises closing (Some y) exits is = absurd (cc is)
+        raises true None true is = absurd (cc is)
+        raises true None false is = let same : e.number ≡ x.number = cc is in ap (λ b. b || false) (eq-eqb e.number x.number same)
+        raises false None exits is = let same : e.number ≡ x.number = cc is in ap (λ b. b || false) (eq-eqb e.number x.number same)
+passed_at_once objects kind closing how (answer.Convert e stop) w is finishes = absurd is
+passed_at_once objects kind closing how answer.Ignored w is finishes = absurd is
 
 module _ (m : Core) (g : Obj) (s : Suspended) (how : CoroEnd) (runs : IsRunningNow m.world.generators g) (generator : IsGenerator m.world.store.made g) (ending : IsEnding m.world.store.made how) (a : CoroAnswer)
     (finishes : (x : KeptGenerator) → kept_at m.world.generators g ≡ Some x → Finishes m.world.store.made x.generator.kind x.generator.closing how a) (list : List KeptGenerator) (changes : list ≡ changed_at g (settled s how) m.world.generators) where
@@ -147,11 +170,13 @@ module _ (m : Core) (g : Obj) (s : Suspended) (how : CoroEnd) (runs : IsRunningN
   pub answers_there : AnswersThere m.world.store.made a
   answers_there = finishes_there m.world.store.made runs.0.generator.kind runs.0.generator.closing how a ending (finishes runs.0 runs.1)
 
-  pub settled_by : (store : Kept) (w : MadeReply) → IsGrown m.world.store store → IsReplied m.world.store.made store.made (reply_by (word_of generator.0.kind) a) w → SettledOne m g s how w (record m { world = record m.world { store = store; generators = list } })
-  settled_by store w grown replied = settled_one m g s how runs.0 runs.1 a (finishes runs.0 runs.1) generator.0 generator.1 store list w grown changes replied
+  pub settled_by : (store : Kept) (w : MadeReply) → IsGrown m.world.store store → IsReplied m.world.store.made store.made (reply_by (word_of generator.0.kind) a) w → IsPassedBy (end_numbers how) w
+      → SettledOne m g s how w (record m { world = record m.world { store = store; generators = list } })
+  settled_by store w grown replied passed = settled_one m g s how runs.0 runs.1 a (finishes runs.0 runs.1) generator.0 generator.1 store list w grown changes replied passed
 
   pub settled_at_once : (w : MadeReply) → IsAtOnce a w → SettledOne m g s how w (record m { world = record m.world { generators = list } })
   settled_at_once w once = settled_by m.world.store w (grown_refl m.world.store) (replied_at_once m.world.store.made (word_of generator.0.kind) a w answers_there once)
+      (passed_at_once m.world.store.made runs.0.generator.kind runs.0.generator.closing how a w once (finishes runs.0 runs.1))
 
   -- a new exception, of its kind
   module _ (kind : CoroKind) (kinds : (body : CoroBody) → HasPayload m.world.store.made g (payload.Generator body) → kind ≡ body.kind) (store : Kept) (grown : IsGrown m.world.store store)
@@ -162,9 +187,11 @@ module _ (m : Core) (g : Obj) (s : Suspended) (how : CoroEnd) (runs : IsRunningN
         let made_so : IsNewExceptionFrom m.world.store.made store.made (class_of m.world.zoo RuntimeError) (stopping (word_of kind) stop).text cause e =
         subst (λ (f : Fault). IsNewExceptionFrom m.world.store.made store.made (class_of m.world.zoo f.kind) f.text cause e) text one in
         let replied : RepliesRaise m.world.store.made store.made (reply_by (word_of kind) (answer.Convert cause stop)) e = raise_from_given m.world.store.made store.made m.world.zoo RuntimeError _ cause e classes grown.objects made_so in
-        settled_by store (made.Fresh e) grown
-        (subst (λ (k : CoroKind). RepliesRaise m.world.store.made store.made (reply_by (word_of k) a) e) (kinds generator.0 generator.1)
-        (subst (λ (x : CoroAnswer). RepliesRaise m.world.store.made store.made (reply_by (word_of kind) x) e) (sym is) replied))
+        settled_by store (made.Fresh e) grown (
+          subst (λ (k : CoroKind). RepliesRaise m.world.store.made store.made (reply_by (word_of k) a) e) (kinds generator.0 generator.1)
+              (subst (λ (x : CoroAnswer). RepliesRaise m.world.store.made store.made (reply_by (word_of kind) x) e) (sym is) replied),
+          made_so.made.later,
+        ) tt
 
     pub settled_ignored : a ≡ answer.Ignored → fault ≡ ignoring (word_of kind) → IsNewException m.world.store.made store.made (class_of m.world.zoo fault.kind) fault.text e
         → SettledOne m g s how (made.Fresh e) (record m { world = record m.world { store = store; generators = list } })
@@ -172,9 +199,11 @@ module _ (m : Core) (g : Obj) (s : Suspended) (how : CoroEnd) (runs : IsRunningN
         let made_so : IsNewException m.world.store.made store.made (class_of m.world.zoo RuntimeError) (ignoring (word_of kind)).text e =
         subst (λ (f : Fault). IsNewException m.world.store.made store.made (class_of m.world.zoo f.kind) f.text e) text one in
         let replied : RepliesRaise m.world.store.made store.made (reply_by (word_of kind) answer.Ignored) e = raise_given m.world.store.made store.made m.world.zoo RuntimeError _ e classes grown.objects made_so in
-        settled_by store (made.Fresh e) grown
-        (subst (λ (k : CoroKind). RepliesRaise m.world.store.made store.made (reply_by (word_of k) a) e) (kinds generator.0 generator.1)
-        (subst (λ (x : CoroAnswer). RepliesRaise m.world.store.made store.made (reply_by (word_of kind) x) e) (sym is) replied))
+        settled_by store (made.Fresh e) grown (
+          subst (λ (k : CoroKind). RepliesRaise m.world.store.made store.made (reply_by (word_of k) a) e) (kinds generator.0 generator.1)
+              (subst (λ (x : CoroAnswer). RepliesRaise m.world.store.made store.made (reply_by (word_of kind) x) e) (sym is) replied),
+          made_so.made.later,
+        ) tt
 
 -- ---- whose answer it is
 

@@ -75,7 +75,7 @@ setting_is m d s asked k handled is =
 -- this machine with one more event, and otherwise with what a turn may change as that one has it
 abbrev pub next_to : Core → Event → Core → Core
 next_to m e n =
-    record m { world = record m.world { store = n.world.store; generators = n.world.generators }; events = m.events ++ e ∷ []; done = n.done; made = n.made; frames = n.frames; callers = n.callers; slots = n.slots; raises = n.raises; stage = n.stage }
+    record m { world = record m.world { store = n.world.store; generators = n.world.generators }; events = m.events ++ e ∷ []; done = n.done; made = n.made; frames = n.frames; callers = n.callers; slots = n.slots; raises = n.raises; raising = n.raising; stage = n.stage }
 
 -- where a run is behind the event, what the journal keeps, and what runs
 pub record Next (m : Core) (d : Drive) (e : Event) (n : Core) : Type 0 where

@@ -61,44 +61,7 @@ use Rattle.py_vm.specs.Holds.{AreRunnable}
 use Rattle.py_vm.specs.Codes.{Checked}
 use Rattle.py_vm.specs.Courses.{EntersBy, IsCourse, IsReplied, IsResumption, NamesThere, TakesThrows}
 use Rattle.py_vm.specs.Generators.{changed_at, entered_at, generator_asked, is_close, kept_at, without_activation, IsRunningNow}
-use Rattle.py_vm.specs.Turns.{
-  fresh,
-  next_frame,
-  passed,
-  setting_at,
-  AnsweredOne,
-  AreReady,
-  CanFinish,
-  CanFollow,
-  CanReply,
-  CanTell,
-  Comes_on,
-  CreatedOne,
-  Finished,
-  FirstAsks,
-  FollowedOne,
-  Halts,
-  HasOwnSlot,
-  HoldsIn,
-  IsCreated,
-  IsEntering,
-  IsFreshFor,
-  IsOpened,
-  IsResumable,
-  IsSaid,
-  IsStepped,
-  IsToldStep,
-  IsTracedAs,
-  IsTracedBy,
-  MadeOne,
-  NotedOne,
-  Questioned,
-  Replies,
-  ResumedOne,
-  SettledOne,
-  ToldOne,
-  WentOn,
-}
+use Rattle.py_vm.specs.Turns.{fresh, next_frame, passed, setting_at, AnsweredOne, AreReady, CanFinish, CanFollow, CanReply, CanTell, Comes_on, CreatedOne, Finished, FirstAsks, FollowedOne, Halts, HasOwnSlot, HoldsIn, IsCreated, IsEntering, IsFreshFor, IsOpened, IsResumable, IsSaid, IsStepped, IsToldStep, IsTracedAs, IsTracedBy, MadeOne, NotedOne, Questioned, Replies, ResumedOne, SettledOne, ToldOne, WentOn, raising_in}
 use Rattle.py_vm.specs.Raises.{raise_at, AreThere}
 use Rattle.py_vm.proofs.JournalLemmas.{readable_on}
 use Rattle.py_vm.proofs.KeptLemmas.{kept_changed}
@@ -153,9 +116,13 @@ pub halted_on : (m m' : Core) (store : Kept) (generators : List KeptGenerator) (
 halted_on m m' store generators frames callers slots stage grown halts =
     halts_trans m (record m { world = record m.world { store = store; generators = generators }; frames = frames; callers = callers; slots = slots; stage = stage }) m' (grew_halts m store generators frames callers slots stage grown) halts
 
+-- and one of which an exception gets its context
+pub raising_halts : (m m' : Core) (raising : Option PyBaseExceptionRef) → Halts (record m { raising = raising }) m' → Halts m m'
+raising_halts m m' raising halts = halts_trans m (record m { raising = raising }) m' (halts_with m (record m { raising = raising }) refl (longer_refl m.world.store) refl refl refl refl refl) halts
+
 -- so does one that noted a raise
 pub noted_halts : (m n : Core) (h : Halted) (w : Answer) → NotedOne m h w n → Halts m n
-noted_halts m n h w (raises, noted, same) = subst (Halts m) (sym same) (halts_with m (record m { raises = raises }) refl (longer_refl m.world.store) refl refl refl refl refl)
+noted_halts m n h w (raises, noted, same) = subst (Halts m) (sym same) (halts_with m (record m { raises = raises; raising = raising_in m.events h w }) refl (longer_refl m.world.store) refl refl refl refl refl)
 
 -- and one that told an exit a traceback
 pub traced_halts : (m n : Core) (e t : Obj) → AreThere m.world.store.made m.raises → IsTracedBy m e (raise_at m.raises e) t n → Halts m n
@@ -260,7 +227,7 @@ module _ (m : Core) (store : Kept) (list : List KeptGenerator) (at : Setting) (q
   pub course_said : (w : MadeReply) → x ≡ course.Says w → IsGrown m.world.store store → IsSaid m q store list w
   course_said w is grown =
       let said : IsCourse (setting_at m) m.world.store store m.world.generators list q (course.Says w) = there (course.Says w) is in
-      record { reply = said.0; says = said.1; grown = grown; replied = said.2; shuts = said.3 }
+      record { reply = said.0; says = said.1; grown = grown; replied = said.2; shuts = said.3; passed = said.4 }
 
   -- which names objects
   pub course_names : (w : MadeReply) → x ≡ course.Says w → NamesThere store.made w
@@ -423,7 +390,7 @@ module _ (m : Core) (s : Stage) where
     store,
     list,
     w,
-    record { reply = said.reply; says = said.says; grown = said.grown; replied = said.replied; shuts = said.shuts },
+    record { reply = said.reply; says = said.says; grown = said.grown; replied = said.replied; shuts = said.shuts; passed = said.passed },
     replies_at m s (record m { world = record m.world { store = store; generators = list }; callers = hs }) w hs a m' replies,
   )
   comes_on_at q hs a m' (inr (inl x)) = inr (inl x)
@@ -472,12 +439,12 @@ still_halts m store list n same grown = subst (Halts m) (sym same) (grew_halts m
 module _ (m n : Core) (g : Obj) (s : Suspended) (how : CoroEnd) (w : MadeReply) (settles : SettledOne m g s how w n) where
   pub settled_replies : m.done ≤ length m.events → HaveClasses m.world.zoo m.world.store.made → (n.done ≤ length n.events) × HaveClasses n.world.zoo n.world.store.made
   settled_replies done classes =
-      let (store, list, (x, here, body, has, a, finishes, grown, changes, replied), same) = settles in
+      let (store, list, (x, here, body, has, a, finishes, grown, changes, replied, passed), same) = settles in
       still_replies m store list n same grown done classes
 
   pub settled_halts : Halts m n
   settled_halts =
-      let (store, list, (x, here, body, has, a, finishes, grown, changes, replied), same) = settles in
+      let (store, list, (x, here, body, has, a, finishes, grown, changes, replied, passed), same) = settles in
       still_halts m store list n same grown
 
 -- a generator was made

@@ -1,11 +1,12 @@
 -- The raises of a machine: those among its events, also behind one more.
 use Rattle.std.proofs.Common.{◌≡◌, ◌≢◌, ◌++◌, ℕ, List, [], ◌∷◌, Bool, true, false, cond, eqb, Some, inl, inr, refl, sym, ap, subst, ◌∙◌, ne_eqb, eq-eqb, arith, ◌⊎◌}
-use Rattle.std.specs.Prelude.{Option, None, nat_eq, option_map}
+use Rattle.std.specs.Prelude.{Option, None, nat_eq, option_map, slice_get}
 use Rattle.std.proofs.lemmas.Bool.Decides.{eqb_tells}
 use Rattle.indexmap.specs.IndexMap.{insert_entry}
 use Rattle.py_objects.specs.declared.payload.Payload.{Payload}
 use Rattle.py_objects.specs.declared.payload.Payload.TheVariants as payload
 use Rattle.py_objects.specs.declared.event.Event.{Event}
+use Rattle.py_objects.specs.declared.event.Event.TheVariants as event
 use Rattle.py_objects.specs.Objects.{Obj, HasPayload, AreNamed, IfThere, IsException, IsTraceback}
 use Rattle.py_objects.specs.Growth.{Grows, IsGrown}
 use Rattle.py_objects.proofs.GrowthLemmas.{payload_grown}
@@ -21,7 +22,11 @@ use Rattle.py_vm.specs.declared.raises.KeptRaise.{KeptRaise}
 use Rattle.py_vm.specs.declared.machinery.Core.{Core}
 use Rattle.py_vm.specs.Machine.{IsFrame}
 use Rattle.py_vm.specs.Raises.{Raises, raise_at, traceback_at, traceback_in, AreRaised, AreThere, IsRaiseThere}
-use Rattle.py_vm.specs.Turns.{raise_in, IsNoted, IsTraced, IsTracedAs, IsTracedBy}
+use Rattle.py_vm.specs.Turns.{raise_in, IsNoted, IsTraced, IsTracedAs, IsTracedBy, raising_by, raising_in}
+use Rattle.py_vm.specs.Stands.{asking}
+use Rattle.py_frame.specs.declared.input.Answer.{Answer}
+use Rattle.py_objects.specs.declared.request.Request.{Request}
+use Rattle.py_objects.specs.declared.refs.PyBaseExceptionRef.{PyBaseExceptionRef}
 
 -- ---- look-ups
 
@@ -273,3 +278,8 @@ raised_traced m m' v t events e raised traced told = by (raise_at m.raises v) re
     by : (found : Option KeptRaise) → raise_at m.raises v ≡ found → IsTracedBy m v found t m' → AreRaised m'.world.store.made (events ++ e ∷ []) m'.raises
     by None here (none, is) = same_raises None here refl (ap (λ (n : Core). n.raises) is)
     by (Some x) here traced = known_as x x.traceback refl here traced
+
+-- what gets its context by an answer to what was asked
+pub raising_same : (events : List Event) (h : Halted) (w : Answer) (act : ℕ) (q : Request) (own : Option PyBaseExceptionRef) (at : ℕ) (raising : Option PyBaseExceptionRef)
+    → slice_get events h.place ≡ Some (event.Ask act q own at) → raising ≡ raising_by (Some q) w → raising ≡ raising_in events h w
+raising_same events h w act q own at raising asks is = is ∙ sym (ap (λ (e : Option Event). raising_by (asking h.running.act e).asks w) asks)

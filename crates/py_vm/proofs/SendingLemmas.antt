@@ -11,7 +11,7 @@ use Rattle.py_objects.specs.declared.error_kind.ErrorKind.TheVariants.{Generator
 use Rattle.py_objects.specs.declared.request.Request.{Request}
 use Rattle.py_objects.specs.declared.request.Request.TheVariants as request
 use Rattle.py_objects.specs.declared.event.ResumeHow.TheVariants as how
-use Rattle.py_objects.specs.Objects.{Obj, HasPayload, AllFit}
+use Rattle.py_objects.specs.Objects.{Obj, HasPayload, AllFit, request_numbers}
 use Rattle.py_objects.specs.Edits.{Kept}
 use Rattle.py_objects.specs.Growth.{GrowsPlainly, IsGrown}
 use Rattle.py_objects.specs.Values.{is_none}
@@ -39,9 +39,9 @@ use Rattle.py_vm.specs.declared.reply.Reply.{Reply as MadeReply}
 use Rattle.py_vm.specs.declared.reply.Reply.TheVariants as made
 use Rattle.py_vm.specs.declared.generators.KeptGenerator.{KeptGenerator}
 use Rattle.py_vm.specs.Codes.{Checked}
-use Rattle.py_vm.specs.Courses.{closed_of, setting_deep, shut_if, IsCourseAt, IsRefusedBy, IsReplied, IsThrown, TakesThrows}
+use Rattle.py_vm.specs.Courses.{closed_of, setting_deep, shut_if, IsCourseAt, IsRefusedBy, IsReplied, IsThrown, TakesThrows, IsPassedBy}
 use Rattle.py_vm.specs.Generators.{changed_at, kept_at, modes_of, seen_as, shut, with_state, without_activation, IsCalledOn}
-use Rattle.py_vm.proofs.CallsLemmas.{closes_none, leaves, replied_behind}
+use Rattle.py_vm.proofs.CallsLemmas.{closes_none, leaves, replied_behind, fails_none}
 use Rattle.py_vm.proofs.KeptLemmas.{changed_twice, kept_nowhere, seen_at}
 
 -- ---- generators
@@ -87,8 +87,8 @@ module _ (depth : ℕ) (old new : Kept) (list list' : List KeptGenerator) (r : R
 
   -- it is answered at once
   pub says_course : (reply : Reply) (w : MadeReply) → AlwaysComesTo (Says reply) → IsReplied old.made new.made reply w → list' ≡ shut_if (closed_of r reply) list
-      → IsCourseAt depth old new list list' r (course.Says w)
-  says_course reply w comes replied shuts = λ codes handled. (reply, comes codes handled, replied, shuts)
+      → IsPassedBy (request_numbers r) w → IsCourseAt depth old new list list' r (course.Says w)
+  says_course reply w comes replied shuts passed = λ codes handled. (reply, comes codes handled, replied, shuts, passed)
 
   -- it is refused, behind objects that came
   pub refused_course : (mid : Kept) (fault : Fault) (c : MadeCourse) → IsRefusedBy mid.made new.made fault c → IsGrown old mid → AllFit old.made → AlwaysComesTo (failing fault) → list' ≡ list
@@ -96,7 +96,7 @@ module _ (depth : ℕ) (old new : Kept) (list list' : List KeptGenerator) (r : R
   refused_course mid fault (course.Says w) replied grown fit comes same =
       let reply : Reply = Fails fault.kind fault.text in
       says_course reply w comes (replied_behind old.made mid.made new.made reply w (plainly_grows old.made mid.made grown.objects) (grown.objects.fit fit) replied)
-      (same ∙ leaves r reply list (closes_none reply (λ g. refl) r))
+      (same ∙ leaves r reply list (closes_none reply (λ g. refl) r)) (fails_none (request_numbers r) mid.made new.made fault.kind fault.text w replied)
   refused_course mid fault (course.Enters f vs) none grown fit comes same = absurd none
   refused_course mid fault (course.Resumes g h) none grown fit comes same = absurd none
 
@@ -144,7 +144,7 @@ module _ (depth : ℕ) (old new : Kept) (list list' : List KeptGenerator) (g v :
 
   -- one that isn't there has stopped
   pub send_nowhere : kept_at list g ≡ None → list' ≡ list → IsCourseAt depth old new list list' (request.Send g v) (course.Says (made.Stops None))
-  send_nowhere here same = says_course depth old new list list' (request.Send g v) (Stops None) (made.Stops None) (send_comes None here (Says (Stops None)) refl) (refl, tt) same
+  send_nowhere here same = says_course depth old new list list' (request.Send g v) (Stops None) (made.Stops None) (send_comes None here (Says (Stops None)) refl) (refl, tt) same tt
 
   -- one that is there
   module _ (x : KeptGenerator) (here : kept_at list g ≡ Some x) (none : Bool) (is_it : none ≡ is_none p)
@@ -165,7 +165,7 @@ module _ (depth : ℕ) (old new : Kept) (list list' : List KeptGenerator) (g v :
     pub send_stops : send_row ≡ RowStops → IsCourseAt depth old new list list' (request.Send g v) (course.Says (made.Stops None))
     send_stops is =
         says_course depth old new list list' (request.Send g v) (Stops None) (made.Stops None) (by_sent RowStops is) (refl, tt)
-        (changed RowStops is ∙ changed_nothing g (by_row RowStops) list x here refl)
+        (changed RowStops is ∙ changed_nothing g (by_row RowStops) list x here refl) tt
 
     pub send_refused : (k : CoroRefusal) (c : MadeCourse) → AllFit old.made → send_row ≡ RowRefuses k → IsRefusedBy old.made new.made (refused (word_of body.kind) k) c
         → IsCourseAt depth old new list list' (request.Send g v) c
@@ -249,7 +249,7 @@ module _ (depth : ℕ) (old new : Kept) (list list' : List KeptGenerator) (g : O
   -- one that isn't there is closed
   pub close_nowhere : kept_at list g ≡ None → list' ≡ list → IsCourseAt depth old new list list' (request.Close g) (course.Says made.Closes)
   close_nowhere here same =
-      says_course depth old new list list' (request.Close g) Closes made.Closes (close_comes None here (Says Closes) refl) refl (same ∙ sym (kept_nowhere g shut (λ x. refl) list here))
+      says_course depth old new list list' (request.Close g) Closes made.Closes (close_comes None here (Says Closes) refl) refl (same ∙ sym (kept_nowhere g shut (λ x. refl) list here)) tt
 
   -- one that is there
   module _ (x : KeptGenerator) (here : kept_at list g ≡ Some x) (mid : List KeptGenerator) (changes : mid ≡ changed_at g (with_state (λ s. behind (closed s.mode depth) s)) list) where
@@ -267,7 +267,7 @@ module _ (depth : ℕ) (old new : Kept) (list list' : List KeptGenerator) (g : O
     pub close_done : close_row ≡ RowDone → list' ≡ changed_at g without_activation mid → IsCourseAt depth old new list list' (request.Close g) (course.Says made.Closes)
     close_done is dropped =
         says_course depth old new list list' (request.Close g) Closes made.Closes (by_closed RowDone is) refl
-        (dropped ∙ ap (changed_at g without_activation) (closed_changed RowDone is) ∙ changed_twice g (by_row RowDone) (λ y. refl) without_activation list)
+        (dropped ∙ ap (changed_at g without_activation) (closed_changed RowDone is) ∙ changed_twice g (by_row RowDone) (λ y. refl) without_activation list) tt
 
     pub close_refused : (k : CoroRefusal) (c : MadeCourse) → AllFit old.made → close_row ≡ RowRefuses k → list' ≡ mid → IsRefusedBy old.made new.made (refused (word_of body.kind) k) c
         → IsCourseAt depth old new list list' (request.Close g) c

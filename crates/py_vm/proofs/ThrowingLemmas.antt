@@ -1,5 +1,5 @@
 -- What throws into generators come to.
-use Rattle.std.proofs.Common.{◌≡◌, ℕ, List, [], Bool, true, false, Some, Ok, Err, inl, inr, refl, sym, ap, subst, ◌∙◌, length}
+use Rattle.std.proofs.Common.{◌≡◌, ℕ, List, [], Bool, true, false, Some, Ok, Err, inl, inr, refl, sym, ap, subst, ◌∙◌, length, eqb, eq-eqb, ◌||◌, ◌∷◌}
 use Rattle.std.specs.Prelude.{Option, None, Result, OnOk, option_map}
 use Rattle.std.proofs.lemmas.Option.{slice_get_within}
 use Rattle.py_objects.specs.declared.refs.PyBaseExceptionRef.{PyBaseExceptionRef}
@@ -11,7 +11,7 @@ use Rattle.py_objects.specs.declared.payload.CoroKind.{CoroKind}
 use Rattle.py_objects.specs.declared.payload.Fault.{Fault}
 use Rattle.py_objects.specs.declared.request.Request.TheVariants as request
 use Rattle.py_objects.specs.declared.event.ResumeHow.TheVariants as how
-use Rattle.py_objects.specs.Objects.{Obj, HasPayload, as_object, as_exception, class_object, numbers, numbers_if, AllBelow, AllFit, IfThere, IsClassObject}
+use Rattle.py_objects.specs.Objects.{Obj, HasPayload, as_object, as_exception, class_object, numbers, numbers_if, AllBelow, AllFit, IfThere, IsClassObject, is_among, request_numbers}
 use Rattle.py_objects.specs.Edits.{Kept, objects_of}
 use Rattle.py_objects.specs.Growth.{IsGrown}
 use Rattle.py_objects.proofs.GrowthLemmas.{payload_grown, plainly_grows}
@@ -49,10 +49,11 @@ use Rattle.py_vm.specs.declared.reply.Reply.{Reply as MadeReply}
 use Rattle.py_vm.specs.declared.reply.Reply.TheVariants as made
 use Rattle.py_vm.specs.declared.generators.KeptGenerator.{KeptGenerator}
 use Rattle.py_vm.specs.Codes.{Checked}
-use Rattle.py_vm.specs.Courses.{setting_deep, IsCourseAt, IsRefusedBy, IsThrown, IsThrownAs, IsThrownBy, IsThrownCourse, IsReplied, RepliesRaise, TakesThrows}
+use Rattle.py_vm.specs.Courses.{setting_deep, IsCourseAt, IsRefusedBy, IsThrown, IsThrownAs, IsThrownBy, IsThrownCourse, IsReplied, RepliesRaise, TakesThrows, IsPassedBy}
 use Rattle.py_vm.specs.Generators.{changed_at, kept_at, seen_as, with_state, IsRunningNow, IsThrownInto}
 use Rattle.py_vm.proofs.SendingLemmas.{by_row, changed_nothing, changed_same, refused_course, says_course, stands_as, AlwaysComesTo}
 use Rattle.py_vm.proofs.WantedLemmas.{taken_there}
+use Rattle.std.proofs.Math.Bool.{or-true}
 
 -- ---- what comes of what is thrown
 
@@ -74,6 +75,13 @@ instance_gives : (objects : List Payload) (x e : PyBaseExceptionRef) (v : Obj) (
 instance_gives objects x e v (payload.Exception y) is = absurd (cc is)
 instance_gives objects x e v _ is = cc is
 
+-- the second of several numbers is among them, and so is the third
+second : (n a b : ℕ) (others : List ℕ) → n ≡ b → is_among n (a ∷ b ∷ others) ≡ true
+second n a b others same = ap (λ x. eqb n a || (x || is_among n others)) (eq-eqb n b same) ∙ or-true (eqb n a)
+
+third : (n a b c : ℕ) (others : List ℕ) → n ≡ c → is_among n (a ∷ b ∷ c ∷ others) ≡ true
+third n a b c others same = ap (λ x. eqb n a || (eqb n b || (x || is_among n others))) (eq-eqb n c same) ∙ ap (λ x. eqb n a || x) (or-true (eqb n b)) ∙ or-true (eqb n a)
+
 -- so an exception that comes of what is thrown is one
 pub thrown_there : (objects : List Payload) (k : Obj) (v : Option Obj) (e : PyBaseExceptionRef) → Normalizes objects k v (comes.Done e) → HasKind objects (as_object e) kind.Exc
 thrown_there objects k None e (inl (ctor.Class class, taken, is)) = absurd (cc is)
@@ -84,6 +92,28 @@ thrown_there objects k (Some w) e (inl (ctor.Class class, taken, (p, has, (b, on
 thrown_there objects k (Some w) e (inl (ctor.Instance x, (q, has_q, taken), (p, has, is))) =
     subst (λ (y : PyBaseExceptionRef). HasKind objects (as_object y) kind.Exc) (sym (instance_gives objects x e w p is)) (taken_there objects k q x has_q taken)
 thrown_there objects k v e (inr (f, taken, is)) = absurd (cc is)
+
+-- what is taken for an exception is itself
+taken_is : (objects : List Payload) (k : Obj) (p : Payload) (x : PyBaseExceptionRef) → IsTakenFor objects k p (Ok (ctor.Instance x)) → x.number ≡ k.number
+taken_is objects k (payload.Class c) x (true, derived, is) = absurd (cc is)
+taken_is objects k (payload.Class c) x (false, derived, is) = absurd is
+taken_is objects k (payload.Exception e) x is = cc is
+taken_is objects k _ x is = absurd is
+
+class_is : (objects : List Payload) (class : PyTypeRef) (v : Obj) (p : Payload) (b : Bool) (e : PyBaseExceptionRef) → ClassWith objects class v p b (comes.Done e) → e.number ≡ v.number
+class_is objects class v p true e is = cc is
+class_is objects class v p false e (args, stands, is) = absurd (cc is)
+
+-- so an exception that comes of what is thrown is one that the throw names
+thrown_named : (objects : List Payload) (g k : Obj) (v : Option Obj) (e : PyBaseExceptionRef) → Normalizes objects k v (comes.Done e) → is_among e.number (request_numbers (request.Throw g k v None)) ≡ true
+thrown_named objects g k None e (inl (ctor.Class class, taken, is)) = absurd (cc is)
+thrown_named objects g k None e (inl (ctor.Instance x, (p, has, taken), is)) =
+    let same : e ≡ x = cc is in
+    second e.number g.number k.number [] (ap (λ (y : PyBaseExceptionRef). y.number) same ∙ taken_is objects k p x taken)
+thrown_named objects g k (Some w) e (inl (ctor.Class class, taken, (p, has, (b, one, is)))) = third e.number g.number k.number w.number [] (class_is objects class w p b e is)
+thrown_named objects g k (Some w) e (inl (ctor.Instance x, (q, has_q, taken), (p, has, is))) =
+    second e.number g.number k.number (w.number ∷ []) (ap (λ (y : PyBaseExceptionRef). y.number) (instance_gives objects x e w p is) ∙ taken_is objects k q x taken)
+thrown_named objects g k v e (inr (f, taken, is)) = absurd (cc is)
 
 -- what is taken for a class is one
 class_of_taken : (objects : List Payload) (k : Obj) (p : Payload) (class : PyTypeRef) → HasPayload objects k p → IsTakenFor objects k p (Ok (ctor.Class class))
@@ -158,12 +188,12 @@ takes_throws Running depth is = absurd (cc is)
 takes_throws Closed depth is = absurd (cc is)
 
 -- what the code makes of it, by where the generator stands
-module _ (depth : ℕ) (old new : List Payload) (list list' : List KeptGenerator) (g : Obj) (e : PyBaseExceptionRef) where
-  found_as : (o : Option KeptGenerator) → kept_at list g ≡ o → (c : MadeCourse) → IsThrownAs depth old new list list' g e o c → IsThrownCourse depth old new list list' g e c
-  found_as o here c is = subst (λ k. IsThrownAs depth old new list list' g e k c) (sym here) is
+module _ (depth : ℕ) (old new : List Payload) (list list' : List KeptGenerator) (g : Obj) (e : PyBaseExceptionRef) (again : MadeReply) where
+  found_as : (o : Option KeptGenerator) → kept_at list g ≡ o → (c : MadeCourse) → IsThrownAs depth old new list list' g e again o c → IsThrownCourse depth old new list list' g e again c
+  found_as o here c is = subst (λ k. IsThrownAs depth old new list list' g e again k c) (sym here) is
 
-  pub into_nowhere : kept_at list g ≡ None → new ≡ old → list' ≡ list → IsThrownCourse depth old new list list' g e (course.Says (made.Passed e))
-  into_nowhere here still same = found_as None here (course.Says (made.Passed e)) (refl, still, same)
+  pub into_nowhere : kept_at list g ≡ None → new ≡ old → list' ≡ list → IsThrownCourse depth old new list list' g e again (course.Says again)
+  into_nowhere here still same = found_as None here (course.Says again) (refl, still, same)
 
   module _ (x : KeptGenerator) (here : kept_at list g ≡ Some x) (changes : list' ≡ changed_at g (with_state (λ s. behind (thrown s.mode depth) s)) list) where
     abbrev pub row : Row
@@ -172,47 +202,51 @@ module _ (depth : ℕ) (old new : List Payload) (list list' : List KeptGenerator
     changed : (which : Row) → row ≡ which → list' ≡ changed_at g (by_row which) list
     changed which is = changes ∙ changed_same g (with_state (λ s. behind (thrown s.mode depth) s)) (by_row row) list x here refl ∙ ap (λ k. changed_at g (by_row k) list) is
 
-    as_row : (which : Row) → row ≡ which → (c : MadeCourse) → IsThrownBy old new list list' g e which c → IsThrownCourse depth old new list list' g e c
-    as_row which is c said = found_as (Some x) here c (subst (λ k. IsThrownBy old new list list' g e k c) (sym is) said)
+    as_row : (which : Row) → row ≡ which → (c : MadeCourse) → IsThrownBy old new list list' g e again which c → IsThrownCourse depth old new list list' g e again c
+    as_row which is c said = found_as (Some x) here c (subst (λ k. IsThrownBy old new list list' g e again k c) (sym is) said)
 
-    pub into_raises : row ≡ RowRaises → new ≡ old → IsThrownCourse depth old new list list' g e (course.Says (made.Passed e))
-    into_raises is still = as_row RowRaises is (course.Says (made.Passed e)) (refl, still, changed RowRaises is ∙ changed_nothing g (by_row RowRaises) list x here refl)
+    pub into_raises : row ≡ RowRaises → new ≡ old → IsThrownCourse depth old new list list' g e again (course.Says again)
+    into_raises is still = as_row RowRaises is (course.Says again) (refl, still, changed RowRaises is ∙ changed_nothing g (by_row RowRaises) list x here refl)
 
-    pub into_throws : row ≡ RowThrows → new ≡ old → IsThrownCourse depth old new list list' g e (course.Resumes g (how.Throw e))
+    pub into_throws : row ≡ RowThrows → new ≡ old → IsThrownCourse depth old new list list' g e again (course.Resumes g (how.Throw e))
     into_throws is still = as_row RowThrows is (course.Resumes g (how.Throw e)) (refl, still, changed RowThrows is)
 
     pub into_refuses : (k : CoroRefusal) (word : CoroKind) (c : MadeCourse) → ((body : CoroBody) → HasPayload old g (payload.Generator body) → word ≡ body.kind) → row ≡ RowRefuses k
-        → IsRefusedBy old new (refused (word_of word) k) c → IsThrownCourse depth old new list list' g e c
+        → IsRefusedBy old new (refused (word_of word) k) c → IsThrownCourse depth old new list list' g e again c
     into_refuses k word c words is said =
         as_row (RowRefuses k) is c
         (λ body has. subst (λ w. IsRefusedBy old new (refused (word_of w) k) c) (words body has) said, changed (RowRefuses k) is ∙ changed_nothing g (by_row (RowRefuses k)) list x here refl)
 
 -- what a throw gives, by what it begins
-abbrev pub ThrowGives : (depth : ℕ) → (old new : List Payload) → (list list' : List KeptGenerator) → Obj → PyBaseExceptionRef → CoroKind → Begin → Type 0
-ThrowGives depth old new list list' g e kind (begin.Raise x) = new ≡ old → IsThrownCourse depth old new list list' g e (course.Says (made.Passed e))
-ThrowGives depth old new list list' g e kind (begin.Refused k) = (c : MadeCourse) → IsRefusedBy old new (refused (word_of kind) k) c → IsThrownCourse depth old new list list' g e c
-ThrowGives depth old new list list' g e kind begin.EnterThrow = new ≡ old → IsThrownCourse depth old new list list' g e (course.Resumes g (how.Throw e))
-ThrowGives depth old new list list' g e kind _ = ⊥
+abbrev pub ThrowGives : (depth : ℕ) → (old new : List Payload) → (list list' : List KeptGenerator) → Obj → PyBaseExceptionRef → (again : MadeReply) → CoroKind → Begin → Type 0
+ThrowGives depth old new list list' g e again kind (begin.Raise x) = new ≡ old → IsThrownCourse depth old new list list' g e again (course.Says again)
+ThrowGives depth old new list list' g e again kind (begin.Refused k) = (c : MadeCourse) → IsRefusedBy old new (refused (word_of kind) k) c → IsThrownCourse depth old new list list' g e again c
+ThrowGives depth old new list list' g e again kind begin.EnterThrow = new ≡ old → IsThrownCourse depth old new list list' g e again (course.Resumes g (how.Throw e))
+ThrowGives depth old new list list' g e again kind _ = ⊥
 
-pub throw_gives : (depth : ℕ) (old new : List Payload) (list list' : List KeptGenerator) (g : Obj) (e : PyBaseExceptionRef) (kind : CoroKind) (b : Begin)
-    → ((body : CoroBody) → HasPayload old g (payload.Generator body) → kind ≡ body.kind) → IsThrownInto g e depth list list' (Some b) → ThrowGives depth old new list list' g e kind b
-throw_gives depth old new list list' g e kind b kinds (x, here, begins, changes) = by b (thrown_as x.generator.mode depth e b begins)
+pub throw_gives : (depth : ℕ) (old new : List Payload) (list list' : List KeptGenerator) (g : Obj) (e : PyBaseExceptionRef) (again : MadeReply) (kind : CoroKind) (b : Begin)
+    → ((body : CoroBody) → HasPayload old g (payload.Generator body) → kind ≡ body.kind) → IsThrownInto g e depth list list' (Some b) → ThrowGives depth old new list list' g e again kind b
+throw_gives depth old new list list' g e again kind b kinds (x, here, begins, changes) = by b (thrown_as x.generator.mode depth e b begins)
   where
-    by : (b : Begin) → ThrownAs e (thrown x.generator.mode depth) b → ThrowGives depth old new list list' g e kind b
-    by (begin.Raise y) row = λ still. into_raises depth old new list list' g e x here changes row.0 still
-    by (begin.Refused k) row = λ c said. into_refuses depth old new list list' g e x here changes k kind c kinds row said
-    by begin.EnterThrow row = λ still. into_throws depth old new list list' g e x here changes row still
+    by : (b : Begin) → ThrownAs e (thrown x.generator.mode depth) b → ThrowGives depth old new list list' g e again kind b
+    by (begin.Raise y) row = λ still. into_raises depth old new list list' g e again x here changes row.0 still
+    by (begin.Refused k) row = λ c said. into_refuses depth old new list list' g e again x here changes k kind c kinds row said
+    by begin.EnterThrow row = λ still. into_throws depth old new list list' g e again x here changes row still
     by _ row = absurd row
 
-pub throw_never : (depth : ℕ) (old new : List Payload) (list list' : List KeptGenerator) (g : Obj) (e : PyBaseExceptionRef) (kind : CoroKind) (b : Begin)
-    → ThrowGives depth old new list list' g e kind b
+pub throw_never : (depth : ℕ) (old new : List Payload) (list list' : List KeptGenerator) (g : Obj) (e : PyBaseExceptionRef) (again : MadeReply) (kind : CoroKind) (b : Begin)
+    → ThrowGives depth old new list list' g e again kind b
     → ((x : PyBaseExceptionRef) → b ≡ begin.Raise x → ⊥) → ((r : CoroRefusal) → b ≡ begin.Refused r → ⊥) → (b ≡ begin.EnterThrow → ⊥) → ⊥
-throw_never depth old new list list' g e kind (begin.Raise x) gives raise refuse throw = raise x refl
-throw_never depth old new list list' g e kind (begin.Refused r) gives raise refuse throw = refuse r refl
-throw_never depth old new list list' g e kind begin.EnterThrow gives raise refuse throw = throw refl
-throw_never depth old new list list' g e kind _ gives raise refuse throw = gives
+throw_never depth old new list list' g e again kind (begin.Raise x) gives raise refuse throw = raise x refl
+throw_never depth old new list list' g e again kind (begin.Refused r) gives raise refuse throw = refuse r refl
+throw_never depth old new list list' g e again kind begin.EnterThrow gives raise refuse throw = throw refl
+throw_never depth old new list list' g e again kind _ gives raise refuse throw = gives
 
 -- ---- throws
+
+-- an exception that is thrown is raised where it isn't thrown into anything
+raises_by : (old new : List Payload) (raise : Raised) (e : PyBaseExceptionRef) → IsThrown old new raise e → RepliesRaise old new (Passes raise) e
+raises_by old new raise e x = record { plain = refl; gives = x.is; below = x.below; raises = x.raises }
 
 module _ (depth : ℕ) (old : Kept) (g k : Obj) (v : Option Obj) (body : CoroBody) (has : HasPayload old.made g (payload.Generator body)) where
   -- what a throw comes to, by where the generator stands
@@ -262,7 +296,8 @@ module _ (depth : ℕ) (old : Kept) (g k : Obj) (v : Option Obj) (body : CoroBod
   -- an exception comes of it, which is thrown into the generator
   module _ (mid new : Kept) (list list' : List KeptGenerator) (outcome : Instantiate) (normalizes : Normalizes old.made k v outcome) (raise : Raised) (e : PyBaseExceptionRef)
       (throws : (x : Generator) → throws_by body.kind x depth outcome ≡ Some (course_by (word_of body.kind) x.act (Throws x.act raise) (thrown x.mode depth)))
-      (is_thrown : IsThrown old.made mid.made raise e) (grown : IsGrown old mid) (fit : AllFit old.made) where
+      (is_thrown : IsThrown old.made mid.made raise e) (again : MadeReply) (replied : IsReplied old.made mid.made (Passes raise) again) (passed : IsPassedBy (request_numbers (request.Throw g k v None)) again)
+      (grown : IsGrown old mid) (fit : AllFit old.made) where
     -- the course by a row
     abbrev pub row_course : (x : Generator) → Row → Course
     row_course x row = course_by (word_of body.kind) x.act (Throws x.act raise) row
@@ -280,17 +315,17 @@ module _ (depth : ℕ) (old : Kept) (g k : Obj) (v : Option Obj) (body : CoroBod
         let x : Generator = kept_or_closed g (option_map seen_as o) in
         throw_comes new list list' o here (row_course x (thrown x.mode depth)) (λ codes handled. moded (setting_deep codes handled depth list) refl x x.mode refl)
 
-    -- the exception as a reply
-    passes : new.made ≡ mid.made → RepliesRaise old.made new.made (Passes raise) e
-    passes still = subst (λ l. RepliesRaise old.made l (Passes raise) e) (sym still) (record { plain = refl; gives = is_thrown.is; below = is_thrown.below; raises = is_thrown.raises })
+    -- the reply of one that isn't entered
+    passes : new.made ≡ mid.made → IsReplied old.made new.made (Passes raise) again
+    passes still = subst (λ l. IsReplied old.made l (Passes raise) again) (sym still) replied
 
-    by_found : (x : KeptGenerator) → kept_at list g ≡ Some x → (row : Row) → thrown x.generator.mode depth ≡ row → (c : MadeCourse) → IsThrownBy mid.made new.made list list' g e row c
+    by_found : (x : KeptGenerator) → kept_at list g ≡ Some x → (row : Row) → thrown x.generator.mode depth ≡ row → (c : MadeCourse) → IsThrownBy mid.made new.made list list' g e again row c
         → IsCourseAt depth old new list list' (request.Throw g k v None) c
     by_found x here RowRaises is c (says, still, same) =
         let comes_to : AlwaysComesTo depth old new list list' (request.Throw g k v None) (Says (Passes raise)) =
         subst (λ (r : Row). AlwaysComesTo depth old new list list' (request.Throw g k v None) (row_course (seen_as x) r)) is (throw_row (Some x) here) in
         subst (IsCourseAt depth old new list list' (request.Throw g k v None)) (sym says)
-        (says_course depth old new list list' (request.Throw g k v None) (Passes raise) (made.Passed e) comes_to (passes still) same)
+        (says_course depth old new list list' (request.Throw g k v None) (Passes raise) again comes_to (passes still) same passed)
     by_found x here RowThrows is c (resumes, still, same) =
         let comes_to : AlwaysComesTo depth old new list list' (request.Throw g k v None) (Throws x.act raise) =
         subst (λ (r : Row). AlwaysComesTo depth old new list list' (request.Throw g k v None) (row_course (seen_as x) r)) is (throw_row (Some x) here) in
@@ -314,32 +349,33 @@ module _ (depth : ℕ) (old : Kept) (g k : Obj) (v : Option Obj) (body : CoroBod
     by_found x here RowSends is c none = absurd none
     by_found x here RowExits is c none = absurd none
 
-    by_kept : (o : Option KeptGenerator) → kept_at list g ≡ o → (c : MadeCourse) → IsThrownAs depth mid.made new.made list list' g e o c
+    by_kept : (o : Option KeptGenerator) → kept_at list g ≡ o → (c : MadeCourse) → IsThrownAs depth mid.made new.made list list' g e again o c
         → IsCourseAt depth old new list list' (request.Throw g k v None) c
     by_kept None here c (says, still, same) =
         subst (IsCourseAt depth old new list list' (request.Throw g k v None)) (sym says)
-        (says_course depth old new list list' (request.Throw g k v None) (Passes raise) (made.Passed e) (throw_row None here) (passes still) same)
+        (says_course depth old new list list' (request.Throw g k v None) (Passes raise) again (throw_row None here) (passes still) same passed)
     by_kept (Some x) here c said = by_found x here (thrown x.generator.mode depth) refl c said
 
-    pub throw_enters : (c : MadeCourse) → IsThrownCourse depth mid.made new.made list list' g e c → IsCourseAt depth old new list list' (request.Throw g k v None) c
+    pub throw_enters : (c : MadeCourse) → IsThrownCourse depth mid.made new.made list list' g e again c → IsCourseAt depth old new list list' (request.Throw g k v None) c
     throw_enters c said = by_kept (kept_at list g) refl c said
 
   -- this exception
   pub throw_this : (new : Kept) (list list' : List KeptGenerator) (e : PyBaseExceptionRef) (c : MadeCourse) → AllFit old.made → IsGrown old old → Normalizes old.made k v (comes.Done e)
-      → IsThrownCourse depth old.made new.made list list' g e c → IsCourseAt depth old new list list' (request.Throw g k v None) c
+      → IsThrownCourse depth old.made new.made list list' g e (made.Passed e) c → IsCourseAt depth old new list list' (request.Throw g k v None) c
   throw_this new list list' e c fit still normalizes said =
       let there = thrown_there old.made k v e normalizes in
-      throw_enters old new list list' (comes.Done e) normalizes (This e) e (λ x. refl)
-      (record { is = λ before named. refl; raises = there; below = slice_get_within old.made e.number (payload.Exception there.0) there.1 }) still fit c said
+      let is_thrown : IsThrown old.made old.made (This e) e = record { is = λ before named. refl; raises = there; below = slice_get_within old.made e.number (payload.Exception there.0) there.1 } in
+      throw_enters old new list list' (comes.Done e) normalizes (This e) e (λ x. refl) is_thrown (made.Passed e) (raises_by old.made old.made (This e) e is_thrown, refl) (thrown_named old.made g k v e normalizes) still fit c said
 
   -- a new one
   pub throw_new : (mid new : Kept) (list list' : List KeptGenerator) (class : PyTypeRef) (args : List Obj) (e : PyBaseExceptionRef) (c : MadeCourse) → AllFit old.made → IsGrown old mid
       → Normalizes old.made k v (comes.Make class args) → IsNewCalled old.made mid.made class args e
-      → IsThrownCourse depth mid.made new.made list list' g e c → IsCourseAt depth old new list list' (request.Throw g k v None) c
+      → IsThrownCourse depth mid.made new.made list list' g e (made.Fresh e) c → IsCourseAt depth old new list list' (request.Throw g k v None) c
   throw_new mid new list list' class args e c fit grown normalizes new_one said =
       let class_there = (called_there old.made k v class args fit normalizes).0 in
-      throw_enters mid new list list' (comes.Make class args) normalizes (Called class args) e (λ x. refl)
-      (record { is = λ before named. called_given old.made mid.made before e grown.objects named class args class_there new_one; raises = (_, new_one.entry); below = new_one.below }) grown fit c said
+      let is_thrown : IsThrown old.made mid.made (Called class args) e =
+      record { is = λ before named. called_given old.made mid.made before e grown.objects named class args class_there new_one; raises = (_, new_one.entry); below = new_one.below } in
+      throw_enters mid new list list' (comes.Make class args) normalizes (Called class args) e (λ x. refl) is_thrown (made.Fresh e) (raises_by old.made mid.made (Called class args) e is_thrown, new_one.later) tt grown fit c said
 
 -- ---- what the code of a throw needs
 
@@ -378,7 +414,7 @@ throw_refused depth old new list g k v word r (body, has) fit words runs is c sa
 
 -- the exception that is thrown goes into it
 pub throw_done : (depth : ℕ) (old new : Kept) (list list' : List KeptGenerator) (g k : Obj) (v : Option Obj) (e : PyBaseExceptionRef) → IsGenerator old.made g → IsReadable old
-    → Normalizes (objects_of old) k v (comes.Done e) → (c : MadeCourse) → IsThrownCourse depth old.made new.made list list' g e c → IsCourseAt depth old new list list' (request.Throw g k v None) c
+    → Normalizes (objects_of old) k v (comes.Done e) → (c : MadeCourse) → IsThrownCourse depth old.made new.made list list' g e (made.Passed e) c → IsCourseAt depth old new list list' (request.Throw g k v None) c
 throw_done depth old new list list' g k v e (body, has) readable is c said =
     throw_this depth old g k v body has new list list' e c readable.fit (grown_refl old) (normalized_as_made old k v (comes.Done e) readable is) said
 
@@ -386,7 +422,7 @@ throw_done depth old new list list' g k v e (body, has) readable is c said =
 pub throw_made : (depth : ℕ) (old mid new : Kept) (list list' : List KeptGenerator) (g k : Obj) (v : Option Obj) (class : PyTypeRef) (args : List Obj) (e : PyBaseExceptionRef)
     → IsGenerator old.made g → IsReadable old
     → Normalizes (objects_of old) k v (comes.Make class args) → IsGrown old mid → IsNewCalled old.made mid.made class args e
-    → (c : MadeCourse) → IsThrownCourse depth mid.made new.made list list' g e c → IsCourseAt depth old new list list' (request.Throw g k v None) c
+    → (c : MadeCourse) → IsThrownCourse depth mid.made new.made list list' g e (made.Fresh e) c → IsCourseAt depth old new list list' (request.Throw g k v None) c
 throw_made depth old mid new list list' g k v class args e (body, has) readable is grown new_one c said =
     throw_new depth old g k v body has mid new list list' class args e c readable.fit grown (normalized_as_made old k v (comes.Make class args) readable is) new_one said
 

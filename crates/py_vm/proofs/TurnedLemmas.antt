@@ -57,7 +57,7 @@ use Rattle.py_vm.proofs.FinishingLemmas.{Asker, asker, calling_none, created_law
 -- ---- an open question comes on
 
 -- what is said is as who asked wants it
-said_fits : (m : Core) (d : Drive) (s : Stage) (store : Kept) (reply : Reply) (hs : List Halted) (asked_by : AskedBy m d hs) (q : Request) → Keeps m d s → IsTheirs m d hs asked_by q → IsGrown m.world.store store
+pub said_fits : (m : Core) (d : Drive) (s : Stage) (store : Kept) (reply : Reply) (hs : List Halted) (asked_by : AskedBy m d hs) (q : Request) → Keeps m d s → IsTheirs m d hs asked_by q → IsGrown m.world.store store
     → ComesTo (setting_at m) m.world.store.made q (Says reply) → FitsWho m d store reply hs asked_by
 said_fits m d s store reply [] alone q k theirs grown says = tt
 said_fits m d s store reply (h ∷ hs) waits q k theirs grown says = λ store' a more gives.

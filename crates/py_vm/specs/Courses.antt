@@ -1,5 +1,5 @@
 -- What the machine promises of requests: the course that the code makes is one that the definitions have.
-use Rattle.std.specs.Prelude.{ℕ, ◌<◌, false, Option, Some, None, List, [], ◌≡◌, length, map}
+use Rattle.std.specs.Prelude.{ℕ, ◌<◌, ◌≤◌, false, true, Option, Some, None, List, [], ◌≡◌, length, map}
 use Rattle.py_code.specs.declared.names.NameId.{NameId}
 use Rattle.py_objects.specs.declared.refs.PyBaseExceptionRef.{PyBaseExceptionRef}
 use Rattle.py_objects.specs.declared.payload.Payload.{Payload}
@@ -16,13 +16,13 @@ use Rattle.py_objects.specs.declared.event.GotAnswer.{GotAnswer}
 use Rattle.py_objects.specs.declared.event.GotAnswer.TheVariants as got
 use Rattle.py_objects.specs.declared.event.ResumeHow.{ResumeHow}
 use Rattle.py_objects.specs.declared.event.ResumeHow.TheVariants as how
-use Rattle.py_objects.specs.Objects.{Obj, Name, HasPayload, AllBelow, AllFit, AreNamed, as_object, got_numbers, numbers_if}
+use Rattle.py_objects.specs.Objects.{Obj, Name, HasPayload, AllBelow, AllFit, AreNamed, as_object, got_numbers, is_among, numbers_if, request_numbers}
 use Rattle.py_objects.specs.Growth.{Grows}
 use Rattle.py_check.specs.declared.note.Kind.TheVariants as kind
 use Rattle.py_rows.specs.Asked.{name_in}
 use Rattle.py_rows.specs.Signature.{characters}
 use Rattle.py_rows.specs.Answers.{HasKind}
-use Rattle.py_answers.specs.Answers.{Raised, Reply, Fails, Yields, Stops, Closes, for_body, IsRaise, GivesValue, GivesRaise, GivesBody}
+use Rattle.py_answers.specs.Answers.{Raised, This, Reply, Fails, Passes, Yields, Stops, Closes, for_body, IsRaise, GivesValue, GivesRaise, GivesBody}
 use Rattle.py_frame.specs.declared.input.Answer.{Answer}
 use Rattle.py_frame.specs.declared.input.Answer.TheVariants as given
 use Rattle.py_frame.specs.Steps.{got_of}
@@ -52,12 +52,20 @@ RaisesThere objects (got.Value v) = Unit {0}
 RaisesThere objects (got.Stop v) = Unit {0}
 RaisesThere objects (got.Raise e) = HasKind objects (as_object e) kind.Exc
 
+-- an exception that an answer made is after these
+abbrev pub IsMadeAfter : List Payload → Answer → Type 0
+IsMadeAfter objects (given.Value v) = Unit {0}
+IsMadeAfter objects (given.Stop v) = Unit {0}
+IsMadeAfter objects (given.Fresh e) = length objects ≤ e.number
+IsMadeAfter objects (given.Passed e) = Unit {0}
+
 -- an answer gives the reply, whatever happened before, and names objects
 pub record GivesReply (old new : List Payload) (reply : Reply) (w : Answer) : Type 0 where
   pub gives : (before : List Event) → AreNamed old before → GivesBody new before reply (got_of w)
   pub below : AllBelow (length new) (got_numbers (got_of w))
   pub heard : IsHeard w
   pub raises : RaisesThere new (got_of w)
+  pub later : IsMadeAfter old w
 
 -- a reply that is the same to a body and to a drive gives a value
 pub record RepliesValue (old new : List Payload) (reply : Reply) (v : Obj) : Type 0 where
@@ -72,14 +80,24 @@ pub record RepliesRaise (old new : List Payload) (reply : Reply) (e : PyBaseExce
   pub below : e.number < length new
   pub raises : HasKind new (as_object e) kind.Exc
 
--- what a question is answered is the reply, whatever happened before, and names objects
+-- what a question is answered is the reply, whatever happened before, and names objects: an exception that the answer made is new, and one that came
+-- from elsewhere is the very one that the reply says
 abbrev pub IsReplied : (old new : List Payload) → Reply → MadeReply → Type 0
 IsReplied old new reply (made.Value v) = RepliesValue old new reply v
-IsReplied old new reply (made.Fresh e) = RepliesRaise old new reply e
-IsReplied old new reply (made.Passed e) = RepliesRaise old new reply e
+IsReplied old new reply (made.Fresh e) = RepliesRaise old new reply e × (length old ≤ e.number)
+IsReplied old new reply (made.Passed e) = RepliesRaise old new reply e × (reply ≡ Passes (This e))
 IsReplied old new reply (made.Yields v) = (reply ≡ Yields v) × (v.number < length new)
 IsReplied old new reply (made.Stops v) = (reply ≡ Stops v) × AllBelow (length new) (numbers_if v)
 IsReplied old new reply made.Closes = reply ≡ Closes
+
+-- an exception that came from elsewhere is among these numbers
+abbrev pub IsPassedBy : List ℕ → MadeReply → Type 0
+IsPassedBy names (made.Value v) = Unit {0}
+IsPassedBy names (made.Fresh e) = Unit {0}
+IsPassedBy names (made.Passed e) = is_among e.number names ≡ true
+IsPassedBy names (made.Yields v) = Unit {0}
+IsPassedBy names (made.Stops v) = Unit {0}
+IsPassedBy names made.Closes = Unit {0}
 
 -- what is replied is the raise of this fault
 abbrev pub IsRaiseOf : Fault → (old new : Kept) → MadeReply → Type 0
@@ -146,11 +164,12 @@ pub record IsResumption (at : Setting) (old new : List Payload) (generators gene
   pub changes : generators' ≡ changed_at object (entered_at (is_close r)) generators
 
 -- a course that was made for a request, by which a store may have got more objects, and a generator another state: what it says gives the reply,
--- and closes a generator where the request closes one that needn't be entered; what it makes is an activation of the function, with the arguments,
--- and no object is new; or a generator is entered
+-- and closes a generator where the request closes one that needn't be entered, and an exception that it passes is one that the request names;
+-- what it makes is an activation of the function, with the arguments, and no object is new; or a generator is entered
 abbrev pub IsCourse : Setting → (old new : Kept) → (generators generators' : List KeptGenerator) → Request → MadeCourse → Type 0
 IsCourse at old new generators generators' r (course.Says w) =
     (reply : Reply) × ComesTo at old.made r (Says reply) × IsReplied old.made new.made reply w × (generators' ≡ shut_if (closed_of r reply) generators)
+    × IsPassedBy (request_numbers r) w
 IsCourse at old new generators generators' r (course.Enters f vs) = ComesTo at old.made r (Enters f vs) × (new ≡ old) × (generators' ≡ generators)
 IsCourse at old new generators generators' r (course.Resumes g h) = IsResumption at old.made new.made generators generators' r g h
 
@@ -192,26 +211,26 @@ abbrev pub IsCourseAt : (depth : ℕ) → (old new : Kept) → (generators gener
 IsCourseAt depth old new generators generators' r c =
     (codes : Checked) (handled : Option PyBaseExceptionRef) → IsCourse (setting_deep codes handled depth generators) old new generators generators' r c
 
--- an exception is thrown into a generator of this state, by this row of its table: it is raised again, refused, or enters it
-abbrev pub IsThrownBy : (old new : List Payload) → (generators generators' : List KeptGenerator) → Obj → PyBaseExceptionRef → Row → MadeCourse → Type 0
-IsThrownBy old new generators generators' g e RowRaises c = (c ≡ course.Says (made.Passed e)) × (new ≡ old) × (generators' ≡ generators)
-IsThrownBy old new generators generators' g e RowThrows c = (c ≡ course.Resumes g (how.Throw e)) × (new ≡ old) × (generators' ≡ changed_at g (entered_at false) generators)
-IsThrownBy old new generators generators' g e (RowRefuses r) c =
+-- an exception is thrown into a generator of this state, by this row of its table: it is raised by this reply, refused, or enters it
+abbrev pub IsThrownBy : (old new : List Payload) → (generators generators' : List KeptGenerator) → Obj → PyBaseExceptionRef → (raise : MadeReply) → Row → MadeCourse → Type 0
+IsThrownBy old new generators generators' g e raise RowRaises c = (c ≡ course.Says raise) × (new ≡ old) × (generators' ≡ generators)
+IsThrownBy old new generators generators' g e raise RowThrows c = (c ≡ course.Resumes g (how.Throw e)) × (new ≡ old) × (generators' ≡ changed_at g (entered_at false) generators)
+IsThrownBy old new generators generators' g e raise (RowRefuses r) c =
     ((body : CoroBody) → HasPayload old g (payload.Generator body) → IsRefusedBy old new (refused (word_of body.kind) r) c) × (generators' ≡ generators)
-IsThrownBy old new generators generators' g e RowStops c = ⊥
-IsThrownBy old new generators generators' g e RowDone c = ⊥
-IsThrownBy old new generators generators' g e RowStarts c = ⊥
-IsThrownBy old new generators generators' g e RowSends c = ⊥
-IsThrownBy old new generators generators' g e RowExits c = ⊥
+IsThrownBy old new generators generators' g e raise RowStops c = ⊥
+IsThrownBy old new generators generators' g e raise RowDone c = ⊥
+IsThrownBy old new generators generators' g e raise RowStarts c = ⊥
+IsThrownBy old new generators generators' g e raise RowSends c = ⊥
+IsThrownBy old new generators generators' g e raise RowExits c = ⊥
 
--- the same of one that is among these, or isn't, and then raises it again
-abbrev pub IsThrownAs : (depth : ℕ) → (old new : List Payload) → (generators generators' : List KeptGenerator) → Obj → PyBaseExceptionRef → Option KeptGenerator → MadeCourse → Type 0
-IsThrownAs depth old new generators generators' g e None c = IsThrownBy old new generators generators' g e RowRaises c
-IsThrownAs depth old new generators generators' g e (Some x) c = IsThrownBy old new generators generators' g e (thrown x.generator.mode depth) c
+-- the same of one that is among these, or isn't, and then raises it
+abbrev pub IsThrownAs : (depth : ℕ) → (old new : List Payload) → (generators generators' : List KeptGenerator) → Obj → PyBaseExceptionRef → (raise : MadeReply) → Option KeptGenerator → MadeCourse → Type 0
+IsThrownAs depth old new generators generators' g e raise None c = IsThrownBy old new generators generators' g e raise RowRaises c
+IsThrownAs depth old new generators generators' g e raise (Some x) c = IsThrownBy old new generators generators' g e raise (thrown x.generator.mode depth) c
 
 -- an exception is thrown into the generator that an object is
-abbrev pub IsThrownCourse : (depth : ℕ) → (old new : List Payload) → (generators generators' : List KeptGenerator) → Obj → PyBaseExceptionRef → MadeCourse → Type 0
-IsThrownCourse depth old new generators generators' g e c = IsThrownAs depth old new generators generators' g e (kept_at generators g) c
+abbrev pub IsThrownCourse : (depth : ℕ) → (old new : List Payload) → (generators generators' : List KeptGenerator) → Obj → PyBaseExceptionRef → (raise : MadeReply) → MadeCourse → Type 0
+IsThrownCourse depth old new generators generators' g e raise c = IsThrownAs depth old new generators generators' g e raise (kept_at generators g) c
 
 -- the course of a call that is refused like this, if it is
 abbrev pub unless_refused : Option Fault → Course → Course

@@ -69,9 +69,9 @@ ThrowsFrom old new depth g k v c = IsCourseAt depth old.store new.store old.gene
 abbrev pub ClosesFrom : (old new : World) → (depth : ℕ) → Obj → MadeCourse → Type 0
 ClosesFrom old new depth g c = IsCourseAt depth old.store new.store old.generators new.generators (request.Close g) c
 
--- an exception is thrown into the generator that an object is
-abbrev pub GoesInto : (old new : World) → (depth : ℕ) → Obj → PyBaseExceptionRef → MadeCourse → Type 0
-GoesInto old new depth g e c = IsThrownCourse depth old.store.made new.store.made old.generators new.generators g e c
+-- an exception is thrown into the generator that an object is, which raises it by this reply where it isn't entered
+abbrev pub GoesInto : (old new : World) → (depth : ℕ) → Obj → PyBaseExceptionRef → (raise : MadeReply) → MadeCourse → Type 0
+GoesInto old new depth g e raise c = IsThrownCourse depth old.store.made new.store.made old.generators new.generators g e raise c
 
 -- why the call of a function with so many arguments is refused, if it is
 abbrev pub IsRefusalIn : World → Standing → Obj → ℕ → Option Fault → Type 0

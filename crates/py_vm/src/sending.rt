@@ -73,35 +73,38 @@ impl World {
             return self.refused_by(kind, refusal);
         }
         match normalized(self.alloc, &self.store, thrown, value) {
-            Instantiate::Done(exception) => self.thrown_into(generator, exception, depth),
+            Instantiate::Done(exception) => {
+                self.thrown_into(generator, exception, Reply::Passed(exception), depth)
+            }
             Instantiate::Make(class, args) => {
                 let exception = make_exception(&mut self.store, class, args)?;
-                self.thrown_into(generator, exception, depth)
+                self.thrown_into(generator, exception, Reply::Fresh(exception), depth)
             }
             Instantiate::Fault(fault) => Ok(Course::Says(self.raised(&fault)?)),
             Instantiate::NoMemory => Err(NoMemory),
         }
     }
 
-    /// What comes of an exception that is thrown into a generator.
+    /// What comes of an exception that is thrown into a generator. A closed one isn't entered, and raises it by this reply.
     fn thrown_into(
         &mut self,
         generator: PyObjectRef,
         exception: PyBaseExceptionRef,
+        raise: Reply,
         depth: usize,
     ) -> Result<Course, NoMemory>
         requires generator { IsGenerator self.old.store.made generator }
         requires readable { IsReadable self.old.store }
         requires classes { HaveClasses self.old.zoo self.old.store.made }
         ensures grows { GrowsTo self.old self.new }
-        ensures course { IfOk result (GoesInto self.old self.new depth generator exception) }
+        ensures course { IfOk result (GoesInto self.old self.new depth generator exception raise) }
     {
         let kind = self.generator_kind(generator);
         let Some(begin) = self.generators.throw(generator, exception, depth) else {
-            return Ok(Course::Says(Reply::Passed(exception)));
+            return Ok(Course::Says(raise));
         };
         match begin {
-            Begin::Raise(_) => Ok(Course::Says(Reply::Passed(exception))),
+            Begin::Raise(_) => Ok(Course::Says(raise)),
             Begin::Refused(refusal) => self.refused_by(kind, refusal),
             Begin::EnterThrow => Ok(Course::Resumes(generator, ResumeHow::Throw(exception))),
             // A throw comes to nothing else.

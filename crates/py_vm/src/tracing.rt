@@ -7,7 +7,7 @@ ghost use Rattle.py_frame.specs.Steps.{got_of};
 ghost use Rattle.py_run.specs.Raises.{is_raising, raised_by};
 ghost use Rattle.py_vm.specs.Machine.{IsFrame};
 ghost use Rattle.py_vm.specs.Raises.{AreThere};
-ghost use Rattle.py_vm.specs.Turns.{AsksAt, CanNote, Halts, IsLastTraced, IsTraced, NotedOne, ToldOne};
+ghost use Rattle.py_vm.specs.Turns.{AsksAt, CanNote, Halts, IsLastTraced, IsTraced, NotedOne, ToldOne, raising_by};
 
 use crate::machinery::Core;
 use crate::raises::KeptRaise;
@@ -16,11 +16,11 @@ use py_answers::entry;
 use py_code::NoMemory;
 use py_exceptions::PyTraceback;
 use py_frame::Answer;
-use py_objects::{Event, Payload, PyObjectRef, Request};
+use py_objects::{Event, Payload, PyBaseExceptionRef, PyObjectRef, Request};
 use std::mem;
 
 impl Core {
-    /// Notes what an answer raises in the body that gets it (Python Language Reference, 7.8), and where that is.
+    /// Notes what an answer raises in the body that gets it (Python Language Reference, 7.8), and where that is, and what gets its context there.
     pub(crate) fn note(&mut self, halted: &Halted, answer: Answer) -> Result<(), NoMemory>
         requires asked { AsksAt self.old.events halted.now.place }
         requires can { CanNote self.old.world.codes halted.now }
@@ -30,7 +30,9 @@ impl Core {
         let Some(Event::Ask { request, .. }) = self.events.get(halted.place) else {
             unreachable!();
         };
-        let Some(exception) = raised_by(request, answer) else {
+        let raised = raised_by(request, answer);
+        self.raising = raising_by(request, answer);
+        let Some(exception) = raised else {
             return Ok(());
         };
         let frame = &halted.running.frame;
@@ -127,6 +129,26 @@ fn raised_by(request: &Request, answer: Answer) -> Option<PyObjectRef>
         }
         Answer::Stop(_) => None,
         Answer::Fresh(exception) | Answer::Passed(exception) => Some(PyObjectRef::from(exception)),
+    }
+}
+
+/// The exception that gets its context where a body gets an answer, if there is one: one that the body raises, or that the answer made.
+fn raising_by(request: &Request, answer: Answer) -> Option<PyBaseExceptionRef>
+    ensures { result ≡ raising_by (Some request.now) answer }
+{
+    match answer {
+        Answer::Value(value) => {
+            if is_raising(request) {
+                Some(PyBaseExceptionRef {
+                    number: value.number,
+                })
+            } else {
+                None
+            }
+        }
+        Answer::Fresh(exception) => Some(exception),
+        Answer::Passed(_) => None,
+        Answer::Stop(_) => None,
     }
 }
 

@@ -1,4 +1,4 @@
-//! Words, and the text of a journal with changes, which no script makes so far.
+//! Words, and the text of a journal with other changes than scripts make.
 
 use py_code::{CodeList, Names, NoMemory};
 use py_objects::{
