@@ -277,7 +277,7 @@ module _ (asked : List Posed) (more : List Payload) (es : List Event) (d : ℕ) 
       (generator_body (length ms), first, told.Closed, exit_finishes second, refl) in (
         entered,
         (
-          ((refl, refl), tt),
+          (refl, refl),
           (
             (refl, (one, (sum, refl, inl (one, refl, added)), refl)),
             ((refl, refl), ((refl, refl, (Closes, inl (close n, ap requested_by is3, due), refl)), tt)),

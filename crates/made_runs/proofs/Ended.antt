@@ -5,15 +5,21 @@ use Rattle.std.specs.Prelude.{slice_get, nat_lt}
 use Rattle.std.specs.List.{list_all}
 use Rattle.std.proofs.lemmas.Option.{same_Some}
 use Rattle.py_objects.specs.declared.payload.Payload.{Payload}
+use Rattle.py_objects.specs.declared.edit.Change.{Change}
 use Rattle.py_objects.specs.declared.event.Event.{Event}
+use Rattle.py_objects.specs.Edits.{edit_numbers}
+use Rattle.py_objects.specs.Objects.{AllBelow, AllFit}
+use Rattle.py_objects.specs.Originals.{ChangesBelow}
+use Rattle.py_objects.proofs.GrowthLemmas.{below_more}
 use Rattle.py_objects.specs.Own.{Own, whose, own_events, own_from}
 use Rattle.py_lines.specs.declared.drive.DriveLine.{DriveLine}
 use Rattle.py_run.specs.Run.{Posed, Activation, Idle, State, start, state_after}
 use Rattle.py_run.specs.Generators.{Generator}
 use Rattle.py_run.specs.Coming.{Past, nothing, Comes}
 use Rattle.py_run.specs.Past.{past_behind}
-use Rattle.py_run.specs.Links.{ContextsCome}
-use Rattle.py_run.proofs.LinksLemmas.{contexts_join}
+use Rattle.py_run.specs.Links.{AreLinks, LinksCome, named_in}
+use Rattle.py_run.proofs.AddedLinks.{links_added, links_both}
+use Rattle.py_run.proofs.FirstLemmas.{below_behind, below_front}
 use Rattle.py_run.proofs.GeneratorsLemmas.{entries}
 use Rattle.py_run.proofs.OwnLemmas.{state_lists}
 use Rattle.py_run.proofs.PastLemmas.{past_events, past_lists, past_state}
@@ -26,7 +32,9 @@ use Rattle.made_runs.proofs.Found.{AreBelow}
 use Rattle.made_runs.proofs.Objects.{store}
 use Rattle.made_runs.proofs.Steps.{plan, past, idle}
 use Rattle.made_runs.proofs.Telling.{may, Tell}
-use Rattle.made_runs.proofs.Contexts.{under, GiveNone}
+use Rattle.made_runs.proofs.Links.{under, BringLinks}
+use Rattle.made_runs.proofs.Located.{the_lines}
+use Rattle.made_runs.proofs.Tracebacks.{below_joined}
 use Rattle.made_runs.proofs.Asked.{asked_on, asked_both}
 
 -- each of these activations tells by events what it may
@@ -34,10 +42,28 @@ abbrev TellBy : List Payload → List Event → List Activation → Type 0
 TellBy more es ms =
     (i : ℕ) (a : Activation) → slice_get ms i ≡ Some a → may more a.function a.args (own_events (suc i) es)
 
+-- changes that name objects below m are of such, and so below n
+changes_below : (m n : ℕ) (cs : List Change) → m ≤ n → AllBelow m (named_in cs) → ChangesBelow n cs
+changes_below m n [] low below = tt
+changes_below m n (c ∷ cs) low below = (
+  (let one = below.0 in omega (arith, one, low)),
+  below_more m n (edit_numbers c.edit) low (below_front m (edit_numbers c.edit) (named_in cs) below.1),
+  changes_below m n cs low (below_behind m (edit_numbers c.edit) (named_in cs) below.1),
+)
+
+-- changes and more of them name what both name
+named_both : (n : ℕ) (cs ds : List Change) → AllBelow n (named_in cs) → AllBelow n (named_in ds) → AllBelow n (named_in (cs ++ ds))
+named_both n [] ds front back = back
+named_both n (c ∷ cs) ds front back = (
+  front.0,
+  below_joined n (edit_numbers c.edit) (named_in (cs ++ ds)) (below_front n (edit_numbers c.edit) (named_in cs) front.1)
+      (named_both n cs ds (below_behind n (edit_numbers c.edit) (named_in cs) front.1) back),
+)
+
 module _ (asked : List Posed) (more : List Payload) where
   -- the run of these drives, which asked this and have their results, and of these activations;
-  -- it names objects below n
-  pub record IsEnded (es : List Event) (ds : List DriveLine) (qs : List Posed) (ms : List Activation) (n : ℕ)
+  -- it names objects below n, and makes these changes
+  pub record IsEnded (es : List Event) (ds : List DriveLine) (qs : List Posed) (ms : List Activation) (n : ℕ) (changes : List Change)
       : Type 0 where
     pub comes : Comes (plan asked) (store more) nothing es
     pub state : state_after start es ≡ idle (length qs) ms
@@ -46,7 +72,9 @@ module _ (asked : List Posed) (more : List Payload) where
     pub acts : Acts (length ms) es
     pub tells : TellBy more es ms
     pub asks : AreAsked (store more) es ds qs
-    pub contexts : ContextsCome (under more) (store more) [] [] start es
+    pub links : LinksCome (under more) the_lines (store more) changes [] start es
+    pub alone : AreLinks 1 (length es) changes
+    pub below : AllBelow n (named_in changes)
     pub all : length ds ≡ length qs
 
   -- where a run stands between drives, with these generators
@@ -57,9 +85,10 @@ module _ (asked : List Posed) (more : List Payload) where
   abbrev behind : List Posed → List Activation → List Event → List Event
   behind qs ms local = block (length ms) (length qs) local
 
-  -- a group that may come behind it: its events, by numbers from 0, its drives and what they ask, and its activations
+  -- a group that may come behind it: its events, by numbers from 0, its drives and what they ask, its activations, and its
+  -- changes
   pub record IsGroup (es : List Event) (qs : List Posed) (ms : List Activation) (n : ℕ) (local : List Event)
-      (ds : List DriveLine) (others : List Posed) (made : List Activation) : Type 0 where
+      (ds : List DriveLine) (others : List Posed) (made : List Activation) (own : List Change) : Type 0 where
     pub comes : (gs : List Generator) → AreBelow n (entries gs)
         → Comes (plan asked) (store more) (between es qs ms gs) (behind qs ms local)
     pub state : state_after (idle (length qs) ms) (behind qs ms local)
@@ -70,7 +99,11 @@ module _ (asked : List Posed) (more : List Payload) where
     pub acts : list_all (λ (e : Event). nat_lt (whose e) (length made)) local ≡ true
     pub tells : (k : ℕ) → Tell more 0 k local made
     pub asks : AreAsked (store more) (es ++ behind qs ms local) ds others
-    pub contexts : GiveNone more es (length qs) ms (behind qs ms local)
+    pub links : (changes : List Change) → AreLinks 1 (length es) changes → AllBelow n (named_in changes)
+        → BringLinks more (changes ++ own) es (length qs) ms (behind qs ms local)
+    pub alone : AreLinks (suc (length es)) (length (es ++ behind qs ms local)) own
+    pub below : AllBelow (2 + n) (named_in own)
+    pub within : 2 + n ≤ length (store more)
     pub all : length ds ≡ length others
 
   -- each of the activations of a group tells what it may
@@ -98,9 +131,10 @@ module _ (asked : List Posed) (more : List Payload) where
         inr (back.0, omega (arith, is, up_is (length xs) back.0, up_is (suc (length xs)) back.0), back.2)
   ]
 
-  module _ (es : List Event) (ds : List DriveLine) (qs : List Posed) (ms : List Activation) (n : ℕ)
-      (ended : IsEnded es ds qs ms n) (local : List Event) (ds' : List DriveLine) (others : List Posed)
-      (made : List Activation) (group : IsGroup es qs ms n local ds' others made) where
+  module _ (fit : AllFit (store more)) (es : List Event) (ds : List DriveLine) (qs : List Posed) (ms : List Activation)
+      (n : ℕ) (changes : List Change) (ended : IsEnded es ds qs ms n changes) (local : List Event) (ds' : List DriveLine)
+      (others : List Posed) (made : List Activation) (own : List Change)
+      (group : IsGroup es qs ms n local ds' others made own) where
     -- the events of the group, behind those of the run
     abbrev events : List Event
     events = behind qs ms local
@@ -177,8 +211,20 @@ module _ (asked : List Posed) (more : List Payload) where
             (let same : 0 + l ≡ l = omega arith in same)
             (told_at k 0 l local made a (group.tells k) at)
 
+    -- the links that came come still, and those of the group behind them
+    links_on : LinksCome (under more) the_lines (store more) (changes ++ own) [] start (es ++ events)
+    links_on =
+        let inside : n ≤ length (store more) = (let more_still = group.within in omega (arith, more_still)) in
+        let bring : LinksCome (under more) the_lines (store more) (changes ++ own) es (state_after start es) events =
+        subst (λ (s : State). LinksCome (under more) the_lines (store more) (changes ++ own) es s events) (sym ended.state)
+        (group.links changes ended.alone ended.below) in
+        subst (λ (os : List Payload). LinksCome (under more) the_lines os (changes ++ own) [] start (es ++ events)) (append-nil (store more))
+        (links_added (under more) (under more) (λ test f vs told may. may) the_lines the_lines (λ code at line is. is) (store more) [] fit changes own
+        (changes_below n (length (store more)) changes inside ended.below) es events (length (es ++ events)) group.alone ended.links
+        (subst (λ (os : List Payload). LinksCome (under more) the_lines os (changes ++ own) es (state_after start es) events) (sym (append-nil (store more))) bring))
+
     -- the run with the group behind it
-    pub group_ends : IsEnded (es ++ events) (ds ++ ds') (qs ++ others) (ms ++ made) (2 + n)
+    pub group_ends : IsEnded (es ++ events) (ds ++ ds') (qs ++ others) (ms ++ made) (2 + n) (changes ++ own)
     group_ends = record {
       comes = comes_on;
       state = state_on;
@@ -189,9 +235,11 @@ module _ (asked : List Posed) (more : List Payload) where
       asks =
           asked_both (store more) (es ++ events) ds ds' qs others ended.all
           (asked_on (store more) es events ds qs ended.asks) group.asks;
-      contexts =
-          contexts_join (under more) (store more) [] [] start es events ended.contexts
-          (subst (λ (s : State). ContextsCome (under more) (store more) [] es s events) (sym ended.state) group.contexts);
+      links = links_on;
+      alone =
+          links_both 1 (length es) (length (es ++ events)) changes own (omega arith)
+          (let longer = length-append es events in omega (arith, longer)) ended.alone group.alone;
+      below = named_both (2 + n) changes own (below_more n (2 + n) (named_in changes) (omega arith) ended.below) group.below;
       all =
           (let front = ended.all in
           let back = group.all in

@@ -1,6 +1,6 @@
--- The three sorts of groups: what a group of each drives and asks, which activations it makes, its events, and its two
--- objects. Drives and activations are numbered from 0, and its objects from n; x is the number that it calls with.
-use Rattle.std.specs.Prelude.{ℕ, suc, Bool, true, false, Option, Some, None, List, [], ◌∷◌, pos, codes}
+-- The three sorts of groups: what a group of each drives and asks, which activations it makes, its events, its two
+-- objects and its frames, and what it changes. Drives and activations are numbered from 0, and its objects from n; x is the number that it calls with.
+use Rattle.std.specs.Prelude.{ℕ, suc, ◌+◌, Bool, true, false, Option, Some, None, List, [], ◌∷◌, pos, codes}
 use Rattle.py_code.specs.declared.operator.BinaryOperator.TheVariants as binary
 use Rattle.py_code.specs.declared.operator.ComparisonOperator.TheVariants as comparison
 use Rattle.py_objects.specs.declared.refs.PyTypeRef.{PyTypeRef}
@@ -19,6 +19,9 @@ use Rattle.py_objects.specs.declared.event.Ending.TheVariants as ending
 use Rattle.py_objects.specs.declared.event.DriveAnswer.TheVariants as answer
 use Rattle.py_objects.specs.declared.event.Event.{Event}
 use Rattle.py_objects.specs.declared.event.Event.TheVariants as event
+use Rattle.py_objects.specs.declared.edit.Change.{Change}
+use Rattle.py_objects.specs.declared.edit.Edit.TheVariants as edit
+use Rattle.py_objects.specs.declared.edit.LinkField.TheVariants as link
 use Rattle.py_objects.specs.Singletons.{none_object}
 use Rattle.py_objects.specs.Objects.{Obj}
 use Rattle.py_objects.specs.Values.{new_exception}
@@ -27,6 +30,7 @@ use Rattle.py_lines.specs.declared.drive.DriveAtom.TheVariants as argument
 use Rattle.py_lines.specs.declared.drive.DriveLine.{DriveLine}
 use Rattle.py_lines.specs.declared.drive.DriveLine.TheVariants as drive
 use Rattle.py_run.specs.Run.{Requests, Posed, Activation}
+use Rattle.made_runs.proofs.Located.{raise_line}
 use Rattle.made_runs.proofs.Objects.{obj, truth_object, false_object, true_object, fault_object, enter_object}
 use Rattle.made_runs.proofs.Objects.{exit_object, scope_object, work_object, count_object, globals_object}
 use Rattle.made_runs.proofs.Objects.{open_object, close_object, limit_object, zero_object, one_object, empty_object}
@@ -226,9 +230,9 @@ fault_class = record { number = 71 }
 abbrev pub raised : Payload
 raised = payload.Exception (new_exception fault_class empty_object)
 
--- its traceback, with the frame that all runs share
-abbrev pub traced : Payload
-traced = payload.Traceback (record { next = None; frame = record { number = 90 }; lasti = 0; lineno = 0 })
+-- its traceback: an entry in the frame of the activation of work, behind the unit that asked
+abbrev pub traced : (frame : ℕ) → Payload
+traced frame = payload.Traceback (record { next = None; frame = record { number = frame }; lasti = 1; lineno = raise_line })
 
 -- a generator, where so many activations were made before
 abbrev pub generator_body : ℕ → CoroBody
@@ -244,8 +248,32 @@ first_of Raises m = raised
 first_of Returns m = payload.None
 first_of Counts m = payload.Generator (generator_body m)
 
--- and the second one
-abbrev pub second_of : Sort → Payload
-second_of Raises = traced
-second_of Returns = payload.None
-second_of Counts = exit_raised
+-- and the second one, where its first activation has this frame
+abbrev pub second_of : Sort → (frame : ℕ) → Payload
+second_of Raises frame = traced frame
+second_of Returns frame = payload.None
+second_of Counts frame = exit_raised
+
+-- the frame of its first activation
+abbrev pub frame_of : Sort → Payload
+frame_of Raises = payload.Frame 2
+frame_of Returns = payload.Frame 2
+frame_of Counts = payload.Frame 3
+
+-- the frames of all activations that a group makes, in order
+abbrev pub frames_of : Sort → List Payload
+frames_of Raises = payload.Frame 2 ∷ payload.Frame 0 ∷ payload.Frame 1 ∷ []
+frames_of Returns = payload.Frame 2 ∷ payload.Frame 0 ∷ payload.Frame 1 ∷ []
+frames_of Counts = payload.Frame 3 ∷ []
+
+-- ---- links
+
+-- the exception that work raises gets its traceback, behind so many events of the group
+abbrev pub traceback_set : (events n : ℕ) → Change
+traceback_set events n = record { after = events + 20; object = obj n; edit = edit.Link link.Traceback (Some (obj (suc n))) }
+
+-- what changes by the events of a group, before which there were so many
+abbrev pub changes_of : Sort → (events n : ℕ) → List Change
+changes_of Raises events n = traceback_set events n ∷ []
+changes_of Returns events n = []
+changes_of Counts events n = []

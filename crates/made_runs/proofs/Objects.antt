@@ -1,6 +1,6 @@
 -- The objects of the runs of made scripts: those that all runs share, which are what each run begins with, the
 -- declarations and the values that groups name; then the numbers that functions may be called with; then the objects of
--- the groups, two for each.
+-- the groups, two for each, and last the frames of all activations.
 use Rattle.std.proofs.Common.{◌≡◌, ◌+◌, ◌-◌, ◌<◌, ◌≤◌, ◌++◌, ℕ, zero, suc, List, [], ◌∷◌, Bool, true, false, ◌&&◌}
 use Rattle.std.proofs.Common.{Some, None, length, take, refl, sym, ap, ◌∙◌, inl, inr, arith, eqb, ne_eqb}
 use Rattle.std.specs.Prelude.{codes, pos, slice_get, nat_lt}
@@ -39,9 +39,9 @@ obj n = record { number = n }
 
 -- ---- how many there are
 
--- so many objects are shared by all runs: they have the numbers 0 to 90
+-- so many objects are shared by all runs: they have the numbers 0 to 89
 abbrev pub shared_count : ℕ
-shared_count = 91
+shared_count = 90
 
 -- so many numbers come behind these: the ones that a group may call its function with
 abbrev pub number_count : ℕ
@@ -159,13 +159,13 @@ name_texts =
     payload.Str (codes "Fault") ∷ payload.Str (codes "enter") ∷ payload.Str (codes "exit")
     ∷ payload.Str (codes "scope") ∷ payload.Str (codes "work") ∷ payload.Str (codes "count") ∷ []
 
--- these, and behind them, from 83 on, the dict of the globals, two texts, three numbers, an empty tuple and a frame
+-- these, and behind them, from 83 on, the dict of the globals, two texts, three numbers and an empty tuple
 abbrev values : List Payload
 values =
     name_texts
     ++ payload.Dict pairs ∷ payload.Str (codes "open") ∷ payload.Str (codes "close")
     ∷ payload.Int (pos 500) ∷ payload.Int (pos 0) ∷ payload.Int (pos 1)
-    ∷ payload.Tuple [] ∷ payload.Frame 2 ∷ []
+    ∷ payload.Tuple [] ∷ []
 
 -- what all runs share
 abbrev pub base : List Payload
@@ -330,11 +330,11 @@ fits_more objects rest p fits =
       made_grown objects (objects ++ rest) p (rest, refl) fits.1,
     )
 
--- entries fit, where those behind fit among those in front
-fit_behind : (objects rest : List Payload) → AllFit objects → Each (FitsIn objects) rest → AllFit (objects ++ rest)
+-- entries fit, where those behind fit among all
+fit_behind : (objects rest : List Payload) → AllFit objects → Each (FitsIn (objects ++ rest)) rest → AllFit (objects ++ rest)
 fit_behind objects rest fit behind i p here = elim (slice_get_split objects rest i p here) [
   | inl front ↦ fits_more objects rest p (fit i p front)
-  | inr back ↦ fits_more objects rest p (each_at (FitsIn objects) rest behind (i - length objects) p back)
+  | inr back ↦ each_at (FitsIn (objects ++ rest)) rest behind (i - length objects) p back
 ]
 
 -- each of some entries fits, where it names numbers of objects that all runs share, of the kinds that it needs
@@ -352,7 +352,7 @@ declared_made = (((_, refl), ((_, refl), tt)), (tt, (tt, (((_, refl), (_, refl))
 
 -- the values need no kinds of objects
 values_made : Each (IsMade base) values
-values_made = (tt, (tt, (tt, (tt, (tt, (tt, (tt, (tt, (tt, (tt, (tt, (tt, (tt, (tt, tt))))))))))))))
+values_made = (tt, (tt, (tt, (tt, (tt, (tt, (tt, (tt, (tt, (tt, (tt, (tt, (tt, tt)))))))))))))
 
 -- each of them fits
 own_fits : Each (FitsIn base) (declared ++ values)
@@ -367,24 +367,24 @@ base_fits i p here = elim (slice_get_split first_objects (declared ++ values) i 
 
 -- ---- with more behind them
 
--- what may come behind them declares nothing, and fits
-abbrev pub IsMore : Payload → Type 0
-IsMore p = (declares p ≡ None) × FitsIn base p
+-- what may come behind them declares nothing, and fits among these objects
+abbrev pub IsMore : List Payload → Payload → Type 0
+IsMore objects p = (declares p ≡ None) × FitsIn objects p
 
 -- then all objects fit
-pub store_fits : (more : List Payload) → Each IsMore more → AllFit (store more)
-store_fits more are = fit_behind base more base_fits (each_so IsMore (FitsIn base) (λ p is. is.1) more are)
+pub store_fits : (more : List Payload) → Each (IsMore (store more)) more → AllFit (store more)
+store_fits more are = fit_behind base more base_fits (each_so (IsMore (store more)) (FitsIn (store more)) (λ p is. is.1) more are)
 
 -- the values declare nothing
 values_plain : Each (λ (p : Payload). declares p ≡ None) values
 values_plain =
-    (refl, (refl, (refl, (refl, (refl, (refl, (refl, (refl, (refl, (refl, (refl, (refl, (refl, (refl, tt))))))))))))))
+    (refl, (refl, (refl, (refl, (refl, (refl, (refl, (refl, (refl, (refl, (refl, (refl, (refl, tt)))))))))))))
 
 -- so all objects are those of the declarations
-pub are_objects : (more : List Payload) → Each IsMore more → AreObjects decls (store more)
+pub are_objects : (more : List Payload) → Each (IsMore (store more)) more → AreObjects decls (store more)
 are_objects more are =
     let IsPlain : Payload → Type 0 = λ p. declares p ≡ None in
-    let more_plain : Each IsPlain more = each_so IsMore IsPlain (λ p is. is.0) more are in
+    let more_plain : Each IsPlain more = each_so (IsMore (store more)) IsPlain (λ p is. is.0) more are in
     objects_behind decls (objects_of 6) (values ++ more) (store more) refl all_there
     (each_both IsPlain values more values_plain more_plain) (store_fits more are)
 
@@ -401,7 +401,7 @@ are_globals more = record {
 -- ---- the numbers
 
 -- k numbers from n on
-pub numbers_from : ℕ → ℕ → List Payload
+unfoldable pub numbers_from : ℕ → ℕ → List Payload
 numbers_from zero n = []
 numbers_from (suc k) n = payload.Int (pos n) ∷ numbers_from k (suc n)
 
@@ -422,10 +422,10 @@ numbers_length zero n = refl
 numbers_length (suc k) n = ap suc (numbers_length k (suc n))
 
 -- numbers may come behind what all runs share
-pub numbers_more : (k n : ℕ) → Each IsMore (numbers_from k n)
+pub numbers_more : (objects : List Payload) (k n : ℕ) → Each (IsMore objects) (numbers_from k n)
 unfolding numbers_from
-numbers_more zero n = tt
-numbers_more (suc k) n = ((refl, (tt, tt)), numbers_more k (suc n))
+numbers_more objects zero n = tt
+numbers_more objects (suc k) n = ((refl, (tt, tt)), numbers_more objects k (suc n))
 
 -- ---- new objects
 

@@ -1,8 +1,8 @@
 -- A call of work that raises, catches its exception and returns it: its events may come between drives, and each of its
 -- activations tells what it may.
-use Rattle.std.proofs.Common.{◌≡◌, ◌<◌, ◌≤◌, ℕ, suc, List, [], ◌∷◌, Bool, true, false, Some, None, length}
-use Rattle.std.proofs.Common.{eq-eqb, refl, sym, ap, subst, ◌∙◌, inl, inr, arith}
-use Rattle.std.specs.Prelude.{Option, pos, codes, int_lt, if◌then◌else◌}
+use Rattle.std.proofs.Common.{◌≡◌, ◌<◌, ◌≤◌, ℕ, suc, List, [], ◌∷◌, true, false, Some, None, length}
+use Rattle.std.proofs.Common.{refl, inl, inr}
+use Rattle.std.specs.Prelude.{Option, pos, codes, int_lt}
 use Rattle.py_objects.specs.declared.refs.PyBaseExceptionRef.{PyBaseExceptionRef}
 use Rattle.py_objects.specs.declared.payload.Payload.{Payload}
 use Rattle.py_objects.specs.declared.payload.Payload.TheVariants as payload
@@ -20,19 +20,16 @@ use Rattle.py_objects.specs.Values.{new_exception}
 use Rattle.py_exceptions.specs.declared.ctor.ExceptionCtor.TheVariants as ctor
 use Rattle.py_answers.specs.Answers.{Reply, Makes as MakesOne, truth, Matches, Raises as Raised_as, IsCalled}
 use Rattle.py_tree.specs.Outcome.{Tries, Raises as Raised}
-use Rattle.py_run.specs.Run.{Posed, Activation, Idle, State, start, state_after}
+use Rattle.py_run.specs.Run.{Posed, Activation, Idle}
 use Rattle.py_run.specs.Generators.{Generator}
-use Rattle.py_run.specs.Raises.{Raise, raise_of, raises_after, raises_of, IsTracebackOf, IsToldOf, Tells}
-use Rattle.py_run.proofs.OwnLemmas.{state_lists}
-use Rattle.py_run.proofs.RaisesLemmas.{raises_on}
-use Rattle.made_runs.proofs.Blocks.{up, Names, names_both, names_wider}
+use Rattle.made_runs.proofs.Blocks.{up, Names}
 use Rattle.made_runs.proofs.Objects.{shared_count, obj, fault_body, store, is_new}
 use Rattle.made_runs.proofs.Objects.{false_object, true_object, fault_object, scope_object, work_object}
 use Rattle.made_runs.proofs.Objects.{globals_object, empty_object}
-use Rattle.made_runs.proofs.Groups.{calls, told_raise, exception, raised, traced, fault_class}
+use Rattle.made_runs.proofs.Groups.{calls, told_raise, exception, raised, fault_class}
 use Rattle.made_runs.proofs.Groups.{asks, enters, leaves, catches, returns, raises_asked, raising, made_of}
 use Rattle.made_runs.proofs.Groups.{Raises}
-use Rattle.made_runs.proofs.Steps.{Come, IsAsked, past, idle, in_body, on, on_is, names_on, low}
+use Rattle.made_runs.proofs.Steps.{Come, IsAsked, past, in_body, on, names_on, low}
 use Rattle.made_runs.proofs.Steps.{returns_comes, truth_comes, global_comes}
 use Rattle.made_runs.proofs.Steps.{begins_name, enters_name, leaves_name, asks_name, truth_name, global_name}
 use Rattle.made_runs.proofs.Working.{work_act, enter_act, exit_act, in_scope, behind_exit, scope_events}
@@ -48,7 +45,7 @@ module _ (n : ℕ) (enough : shared_count ≤ n) where
   fault_low = low n enough fault_object refl
 
   -- the events up to the question for the exception
-  asked_name : (d a b : ℕ) (x : Obj) (rest : List Event) → x.number < n → Names n rest
+  pub asked_name : (d a b : ℕ) (x : Obj) (rest : List Event) → x.number < n → Names n rest
       → Names n (raises_asked d a b x rest)
   asked_name d a b x rest number names =
       let raises : List Event = event.Ask a (request.Raisable fault_object) None 0 ∷ rest in
@@ -90,7 +87,7 @@ module _ (n : ℕ) (enough : shared_count ≤ n) where
 -- ---- the class and the exception
 
 -- the exception, of no arguments
-abbrev body : ExceptionBody
+abbrev pub body : ExceptionBody
 body = new_exception fault_class empty_object
 
 -- Fault is a class of exceptions, and may be raised: then it is called
@@ -151,36 +148,6 @@ module _ (asked : List Posed) (more : List Payload) (es : List Event) (d : ℕ) 
       names_on m es (raises_asked (suc d) a (enter_act ms) x []) names
       (asked_name m enough (suc d) a (enter_act ms) x [] number tt)
 
-  -- the exception is raised last, and no exit was told its traceback
-  raised_last : state_after start es ≡ idle d ms
-      → raise_of (obj n) (raises_of raised_events) ≡ Some (record { exception = obj n; traceback = None })
-  raised_last state =
-      let answer : Event = event.Got a (got.Value (obj n)) in
-      let front : List Event = raises_asked (suc d) a (enter_act ms) x [] in
-      let before : List Raise = raises_of asked_events in
-      let raise : Raise = record { exception = obj n; traceback = None } in
-      let stands : state_after start asked_events ≡ state_after (idle d ms) front =
-      ap (state_after start) (on_is es front) ∙ state_lists start es front
-      ∙ ap (λ (s : State). state_after s front) state in
-      ap (raise_of (obj n)) (raises_on asked_events answer)
-      ∙ ap (λ (s : State). raise_of (obj n) (raises_after s before answer)) stands
-      ∙ ap (λ (hit : Bool). if hit then Some raise else raise_of (obj n) before) (eq-eqb n n refl)
-
-  -- so the exit is told a new one
-  told : shared_count ≤ n → x.number < n → Names n es → state_after start es ≡ idle d ms
-      → HasPayload (store more) (obj n) raised → HasPayload (store more) (obj (suc n)) traced
-      → Tells (store more) raised_events (raises_of raised_events) exit
-  told enough number names state first second =
-      let earlier : Names (suc n) asked_events =
-      asked_names (suc n) (omega (arith, enough)) (omega (arith, number))
-      (names_wider n (suc n) es (omega arith) names) in
-      let below : Names (suc n) raised_events =
-      names_both (suc n) asked_events (event.Got a (got.Value (obj n)) ∷ []) earlier ((omega arith, tt), tt) in
-      let new : IsTracebackOf (store more) raised_events None (obj (suc n)) =
-      (is_new (store more) raised_events (suc n) traced second refl below, (_, second)) in
-      let Told : Option Raise → Type 0 = λ r. IsToldOf (store more) raised_events r (obj (suc n)) in
-      inr (body, first, refl, subst Told (sym (raised_last state)) new)
-
   -- the exception is new
   raises_new : shared_count ≤ n → x.number < n → Names n es → HasPayload (store more) (obj n) raised
       → IsCalled (store more) asked_events fault_class [] (obj n)
@@ -215,12 +182,12 @@ module _ (asked : List Posed) (more : List Payload) (es : List Event) (d : ℕ) 
       truth_comes asked more matched d acts gens a true own ends
       (returns_comes asked more (on before (catches a n [])) d acts gens a x (obj n) is) in
       let matching : Come asked more (in_body loaded d a acts gens) match_events = (
-        ((refl, refl), tt),
+        (refl, refl),
         ((refl, (truth true, (match, refl, inl (truth true, refl, matches more (obj n) first)), refl)), returned),
       ) in
       let loading : Come asked more (in_body answered d a acts gens) (asks a global own fault_object match_events) =
       global_comes asked more answered d acts gens a (codes "Fault") fault_object own match_events refl matching in (
-        ((refl, refl), tt),
+        (refl, refl),
         ((refl, (truth false, (test, refl, inl (truth false, refl, (payload.None, refl, refl))), refl)), loading),
       )
 
@@ -235,22 +202,21 @@ module _ (asked : List Posed) (more : List Payload) (es : List Event) (d : ℕ) 
       let tested_events : List Event = on entered_events (asks a (request.Truth true_object) None true_object []) in
       truth_comes asked more entered_events d _ _ a true None load_events
       (global_comes asked more tested_events d _ _ a (codes "Fault") fault_object None last_events refl
-      (((refl, refl), tt), ((refl, (call, (asks_it, refl, inl (call, refl, raisable more)), new)), k)))
+      ((refl, refl), ((refl, (call, (asks_it, refl, inl (call, refl, raisable more)), new)), k)))
 
   -- all events of the group may come
-  pub raising_comes : (v : ℕ) → shared_count ≤ n → x.number < n → Names n es → state_after start es ≡ idle d ms
+  pub raising_comes : (v : ℕ) → shared_count ≤ n → x.number < n → Names n es
       → IsAsked asked more d (calls work_object x) → d < length asked
       → HasPayload (store more) x (payload.Int (pos v)) → int_lt (pos v) (pos 500) ≡ true
-      → HasPayload (store more) (obj n) raised → HasPayload (store more) (obj (suc n)) traced
+      → HasPayload (store more) (obj n) raised
       → Come asked more (past es d Idle [] ms gs) (raising (suc d) a (enter_act ms) (exit_act ms) n x)
-  raising_comes v enough number names state is few has less first second =
+  raising_comes v enough number names is few has less first =
       let own : Option PyBaseExceptionRef = Some (exception n) in
       let exits : List Event = leaves a (exit_act ms) own fault_object (obj n) (obj (suc n)) [] in
       let caught : Come asked more (behind_exit (on raised_events exits) d ms gs x (told_raise n)) caught_events =
       catches_comes (on raised_events exits) (left_acts ms x (told_raise n)) (left_generators ms gs) is first in
       let leaving : Come asked more (in_scope raised_events d ms gs x) left_events =
-      leaves_scope asked more raised_events d ms gs x is own fault_object (obj n) (obj (suc n)) caught_events
-      (told enough number names state first second) caught in
+      leaves_scope asked more raised_events d ms gs x is own fault_object (obj n) (obj (suc n)) caught_events caught in
       enters_scope asked more es d ms gs x is v true raise_events few has less
       (raises_comes first (raises_new enough number names first) leaving)
 

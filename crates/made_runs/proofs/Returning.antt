@@ -1,7 +1,7 @@
 -- A call of work that returns its number: its events may come between drives, and each of its activations tells what it
 -- may.
 use Rattle.std.proofs.Common.{◌≡◌, ◌<◌, ◌≤◌, ℕ, suc, List, [], ◌∷◌, false, None, length, refl}
-use Rattle.std.proofs.Common.{inl, inr}
+use Rattle.std.proofs.Common.{inr}
 use Rattle.std.specs.Prelude.{pos, int_lt}
 use Rattle.py_objects.specs.declared.payload.Payload.{Payload}
 use Rattle.py_objects.specs.declared.payload.Payload.TheVariants as payload
@@ -59,8 +59,7 @@ module _ (asked : List Posed) (more : List Payload) (es : List Event) (d : ℕ) 
       let returned : Come asked more (behind_exit behind d ms gs x told_none) ends =
       returns_comes asked more behind d (left_acts ms x told_none) (left_generators ms gs) a x x is in
       let leaving : Come asked more (in_scope tested_events d ms gs x) left_events =
-      leaves_scope asked more tested_events d ms gs x is None none_object none_object none_object ends
-      (inl (refl, refl, refl)) returned in
+      leaves_scope asked more tested_events d ms gs x is None none_object none_object none_object ends returned in
       enters_scope asked more es d ms gs x is v false test_events few has less
       (truth_comes asked more entered_events d _ _ a false None left_events leaving)
 

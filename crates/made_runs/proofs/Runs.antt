@@ -1,10 +1,12 @@
 -- Each text that is made is a script that has a whole run, whose journal is put together here.
-use Rattle.std.proofs.Common.{◌≡◌, ◌+◌, ◌*◌, ◌%◌, ◌^◌, ℕ, List, [], length, length-append, refl, sym, ap, subst, ◌∙◌}
+use Rattle.std.proofs.Common.{◌≡◌, ◌+◌, ◌*◌, ◌%◌, ◌^◌, ◌<◌, ◌≤◌, ◌++◌, ℕ, List, [], Some, length, length-append, refl, sym, ap, subst, ◌∙◌}
 use Rattle.std.proofs.Common.{arith}
 use Rattle.std.specs.Prelude.{slice_get}
 use Rattle.py_objects.specs.declared.payload.Payload.{Payload}
 use Rattle.py_objects.specs.declared.event.Event.{Event}
+use Rattle.py_objects.specs.FrameEntries.{frames_from, frames_in}
 use Rattle.py_objects.specs.Objects.{event_numbers, AllBelow, AreNamed}
+use Rattle.py_objects.proofs.GrowthLemmas.{slice_get_behind}
 use Rattle.py_lines.specs.declared.drive.DriveLine.{DriveLine}
 use Rattle.py_grammar.specs.Grammar.{Decl}
 use Rattle.py_grammar.specs.Lines.{lines}
@@ -18,18 +20,32 @@ use Rattle.py_meaning.specs.Core.{IsCore}
 use Rattle.py_meaning.specs.Whole.{IsRunOf, IsJournalOf}
 use Rattle.made_runs.specs.Runs.{AreCore, HaveRuns, most_events_of_a_group}
 use Rattle.made_runs.proofs.Lists.{Each, each_at, each_both}
-use Rattle.made_runs.proofs.Blocks.{Names}
-use Rattle.made_runs.proofs.Objects.{number_count, first_of_groups, base, decls, store, IsMore, are_objects}
+use Rattle.made_runs.proofs.Blocks.{Names, names_wider}
+use Rattle.made_runs.proofs.Objects.{shared_count, number_count, first_of_groups, base, decls, store, IsMore, are_objects}
 use Rattle.made_runs.proofs.Objects.{are_globals, store_fits, numbers_from, numbers_length, numbers_more, globals_object}
 use Rattle.made_runs.proofs.Scripts.{script_of}
 use Rattle.made_runs.proofs.Spelled.{spelled}
 use Rattle.made_runs.proofs.Reaching.{objects_from, asked_from, objects_many, objects_more, all_more, Reached}
-use Rattle.made_runs.proofs.Reaching.{reaches, none}
+use Rattle.made_runs.proofs.Reaching.{AreFramed, frames_made, reaches, none}
+use Rattle.made_runs.proofs.Frames.{behind_frameless, frame_at, frames_more, made_frames, numbers_frameless, objects_frameless}
+use Rattle.made_runs.proofs.Located.{located}
 
 module _ (count s : ℕ) where
+  -- the first frame has this number
+  abbrev frame : ℕ
+  frame = first_of_groups + 2 * count
+
   -- the objects of the groups
+  abbrev groups : List Payload
+  groups = objects_from count s 0 frame
+
+  -- the frames of their activations
+  abbrev frames : List Payload
+  frames = frames_made count s
+
+  -- both
   abbrev own : List Payload
-  own = objects_from count s 0
+  own = groups ++ frames
 
   -- the numbers and these: all that comes behind what all runs share
   abbrev behind : List Payload
@@ -39,28 +55,59 @@ module _ (count s : ℕ) where
   abbrev asked : List Posed
   asked = asked_from count s first_of_groups
 
+  -- the frames have their objects
+  framed : AreFramed (store behind) frame frames
+  framed i p here =
+      ap (slice_get (store behind)) (let same : frame + i ≡ shared_count + (number_count + (2 * count + i)) = omega arith in same)
+      ∙ slice_get_behind base behind (number_count + (2 * count + i))
+      ∙ ap (λ (k : ℕ). slice_get behind (k + (2 * count + i))) (sym (numbers_length number_count 0))
+      ∙ slice_get_behind (numbers_from number_count 0) own (2 * count + i)
+      ∙ ap (λ (k : ℕ). slice_get own (k + i)) (sym (objects_many count s 0 frame))
+      ∙ slice_get_behind groups frames i ∙ here
+
+  -- and no other objects are frames
+  placed : (i : ℕ) → i < length frames → slice_get (frames_in (store behind)) i ≡ Some (frame + i)
+  placed i low =
+      let numbers : List Payload = numbers_from number_count 0 in
+      let first : frames_from 0 (base ++ behind) ≡ frames_from (0 + length base) behind = behind_frameless 0 base behind refl in
+      let second : frames_from (0 + length base) behind ≡ frames_from ((0 + length base) + length numbers) own =
+      behind_frameless (0 + length base) numbers own (numbers_frameless number_count 0) in
+      let third : frames_from ((0 + length base) + length numbers) own ≡ frames_from (((0 + length base) + length numbers) + length groups) frames =
+      behind_frameless ((0 + length base) + length numbers) groups frames (objects_frameless count s 0 frame) in
+      let at : ((0 + length base) + length numbers) + length groups ≡ frame =
+      (let numbers_many = numbers_length number_count 0 in
+      let own_many = objects_many count s 0 frame in
+      omega (arith, numbers_many, own_many)) in
+      ap (λ (l : List ℕ). slice_get l i) (first ∙ second ∙ third)
+      ∙ frame_at (((0 + length base) + length numbers) + length groups) frames (made_frames count s) i low
+      ∙ ap (λ (k : ℕ). Some (k + i)) at
+
+  -- all of these objects may come behind what all runs share
+  are_more : Each (IsMore (store behind)) behind
+  are_more =
+      each_both (IsMore (store behind)) (numbers_from number_count 0) own (numbers_more (store behind) number_count 0)
+      (each_both (IsMore (store behind)) groups frames (objects_more behind frame count s 0 [] refl framed) (frames_more (store behind) count s))
+
   -- the run of all groups
   run : Reached asked own (drives_from count s 1) asked
       (first_of_groups + 2 * count) (0 + most_events_of_a_group * count)
-  run = reaches asked own count s [] [] [] [] first_of_groups [] (none asked own) refl refl (omega arith)
+  run =
+      reaches asked own (store_fits behind are_more) frame frames framed placed count s [] [] [] [] first_of_groups [] [] [] (none asked own) refl refl
+      (omega arith) refl refl
 
-  -- these objects may come behind what all runs share
-  are_more : Each IsMore behind
-  are_more = each_both IsMore (numbers_from number_count 0) own (numbers_more number_count 0) (objects_more count s 0)
-
-  -- there are so many objects
-  store_long : length (store behind) ≡ first_of_groups + 2 * count
+  -- there are so many objects before the frames
+  store_long : frame ≤ length (store behind)
   store_long =
       let numbers_many = numbers_length number_count 0 in
-      let own_many = objects_many count s 0 in
-      omega (arith, numbers_many, own_many, length-append base behind, length-append (numbers_from number_count 0) own)
+      let own_many = objects_many count s 0 frame in
+      omega (arith, numbers_many, own_many, length-append base behind, length-append (numbers_from number_count 0) own, length-append groups frames)
 
   -- and all that is named is one of them
   named : AreNamed (store behind) run.events
   named =
       let Below : Event → Type 0 = λ e. AllBelow (length (store behind)) (event_numbers e) in
       let names : Names (length (store behind)) run.events =
-      subst (λ (n : ℕ). Names n run.events) (sym store_long) run.ended.names in
+      names_wider frame (length (store behind)) run.events store_long run.ended.names in
       record {
         in_events = λ i e at. each_at Below run.events names i e at;
         in_payloads = λ i p at. (store_fits behind are_more i p at).0;
@@ -95,14 +142,14 @@ module _ (count s : ℕ) where
   journal = record {
     events = run.events;
     objects = store behind;
-    changes = [];
-    codes = record { names = []; codes = [] };
+    changes = run.changes;
+    codes = located;
   }
 
-  -- in it nothing changes, since no exception gets a context
+  -- in it the exceptions that work raises get entries of tracebacks
   is_journal : IsJournalOf decls (drives_from count s 1) journal
   unfolding is_run
-  is_journal = record { run = is_run; links = record { contexts = run.ended.contexts; alone = tt } }
+  is_journal = record { run = is_run; links = record { come = run.ended.links; alone = run.ended.alone } }
 
 -- each text that is made has a whole run
 pub have_runs : HaveRuns

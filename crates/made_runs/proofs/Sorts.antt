@@ -1,18 +1,24 @@
 -- A group of each sort may come behind a run that stands between drives.
 use Rattle.std.proofs.Common.{◌≡◌, ◌+◌, ◌<◌, ◌≤◌, ◌++◌, ℕ, suc, List, [], ◌∷◌, Bool, true, false, length}
-use Rattle.std.proofs.Common.{length-append, refl, sym, ap, subst, ◌∙◌, append_assoc, arith}
+use Rattle.std.proofs.Common.{Some, length-append, refl, sym, ap, subst, ◌∙◌, append_assoc, append-nil, arith}
 use Rattle.std.specs.Prelude.{pos, int_lt, slice_get}
+use Rattle.std.proofs.lemmas.Option.{slice_get_within}
 use Rattle.py_objects.specs.declared.payload.Payload.{Payload}
 use Rattle.py_objects.specs.declared.payload.Payload.TheVariants as payload
 use Rattle.py_objects.specs.declared.event.DriveAnswer.TheVariants as answer
 use Rattle.py_objects.specs.declared.event.Event.{Event}
 use Rattle.py_objects.specs.Singletons.{none_object}
+use Rattle.py_objects.specs.declared.edit.Change.{Change}
+use Rattle.py_objects.specs.FrameEntries.{frames_in}
 use Rattle.py_objects.specs.Objects.{Obj, HasPayload}
 use Rattle.py_objects.proofs.GrowthLemmas.{slice_get_behind}
 use Rattle.py_coro.specs.declared.coro.CoroEnd.TheVariants as left
 use Rattle.py_lines.specs.declared.drive.DriveLine.{DriveLine}
 use Rattle.py_run.specs.Run.{Posed, Activation, requested_by}
 use Rattle.py_run.specs.Generators.{Generator, running_at, settled}
+use Rattle.py_run.specs.Links.{AreLinks, links_at}
+use Rattle.py_run.proofs.AddedLinks.{links_both}
+use Rattle.py_run.proofs.NoLinks.{NoneSet}
 use Rattle.py_run.proofs.GeneratorsLemmas.{entries, entries_on, entries_running, entries_settled}
 use Rattle.py_meaning.specs.Whole.{IsLeftBy}
 use Rattle.made_runs.proofs.Lists.{each_both, each_so}
@@ -21,12 +27,13 @@ use Rattle.made_runs.proofs.Found.{AreBelow}
 use Rattle.made_runs.proofs.Objects.{shared_count, obj, store, work_object, count_object, zero_object}
 use Rattle.made_runs.proofs.Groups.{Sort, Raises, Returns, Counts, sort_by, lines_of, asked_of, made_of, events_of}
 use Rattle.made_runs.proofs.Groups.{first_of, second_of, worked, entered, left as left_by, told_raise, told_none}
-use Rattle.made_runs.proofs.Groups.{exception}
+use Rattle.made_runs.proofs.Groups.{exception, changes_of, frame_of}
 use Rattle.made_runs.proofs.Steps.{idle}
 use Rattle.made_runs.proofs.Raising.{raising_comes, raising_names, raising_tells}
 use Rattle.made_runs.proofs.Returning.{returning_comes, returning_names, returning_tells}
 use Rattle.made_runs.proofs.Counting.{counting_comes, counting_names, counting_tells}
-use Rattle.made_runs.proofs.Contexts.{gives_none}
+use Rattle.made_runs.proofs.Links.{counting_links, returning_links}
+use Rattle.made_runs.proofs.Tracebacks.{earlier_none, raising_links}
 use Rattle.made_runs.proofs.Ended.{IsEnded, IsGroup}
 
 -- the number of a group is below 500 where work raises, and isn't where it returns
@@ -112,18 +119,31 @@ module _ (asked : List Posed) (more : List Payload) (es : List Event) (qs rest :
   leaves_generator =
       (length es + 2, answer.Returns (obj n), slice_get_behind es (block m d (events_of Counts n x)) 2, refl)
 
-  -- a group of a sort, for which its number is, and whose objects are there
-  pub group_of : (sort : Sort) (ds : List DriveLine) → IsEnded asked more es ds qs ms n → IsFor sort v
+  -- the change of a raise is of its event
+  raise_alone : AreLinks (suc (length es)) (length (es ++ block m d (events_of Raises n x))) (changes_of Raises (length es) n)
+  raise_alone = (refl, omega arith, (let longer = length-append es (block m d (events_of Raises n x)) in omega (arith, longer)), tt)
+
+  -- earlier changes are of no event of the group
+  none_more : (cs : List Change) → AreLinks 1 (length es) cs → (local : List Event) → NoneSet (cs ++ []) (length es) local
+  none_more cs alone local k low high = ap (links_at (suc k)) (append-nil cs) ∙ earlier_none 1 (length es) (suc k) cs alone (omega (arith, low))
+
+  -- both objects of the group are there
+  is_within : (p : Payload) → HasPayload (store more) (obj (suc n)) p → 2 + n ≤ length (store more)
+  is_within p has = let low = slice_get_within (store more) (suc n) p has in omega (arith, low)
+
+  -- a group of a sort, for which its number is, and whose objects and first frame are there
+  pub group_of : (sort : Sort) (ds : List DriveLine) (changes : List Change) → IsEnded asked more es ds qs ms n changes → IsFor sort v
       → shared_count ≤ n → x.number < n → asked ≡ qs ++ (asked_of sort n x ++ rest)
       → HasPayload (store more) x (payload.Int (pos v))
-      → HasPayload (store more) (obj n) (first_of sort m) → HasPayload (store more) (obj (suc n)) (second_of sort)
+      → HasPayload (store more) (obj n) (first_of sort m) → (frame : ℕ) → HasPayload (store more) (obj (suc n)) (second_of sort frame)
+      → HasPayload (store more) (obj frame) (frame_of sort) → slice_get (frames_in (store more)) m ≡ Some frame
       → IsGroup asked more es qs ms n (events_of sort n x) (lines_of sort v (suc d))
-      (asked_of sort n x) (made_of sort n x)
-  group_of Raises ds ended for enough number is has first second = record {
+      (asked_of sort n x) (made_of sort n x) (changes_of sort (length es) n)
+  group_of Raises ds changes ended for enough number is has first frame second there placed = record {
     comes = λ gs below.
         let few : d < length asked = omega (arith, asks_many (asked_of Raises n x ++ rest) is) in
-        raising_comes asked more es d ms gs n x v enough number ended.names ended.state
-        (asks_at (asked_of Raises n x ++ rest) 0 is) few has for first second;
+        raising_comes asked more es d ms gs n x v enough number ended.names
+        (asks_at (asked_of Raises n x ++ rest) 0 is) few has for first;
     state =
         ap (λ (l : List Activation). idle (suc d) l) (three_on ms (worked x) entered (left_by (told_raise n)))
         ∙ ap (λ (k : ℕ). idle k (ms ++ made_of Raises n x)) (let same : suc d ≡ d + 1 = omega arith in same);
@@ -134,10 +154,18 @@ module _ (asked : List Posed) (more : List Payload) (es : List Event) (qs rest :
     acts = refl;
     tells = λ k. raising_tells more k n x first;
     asks = (((work_object, x ∷ [], refl, refl, (has, tt)), refl), tt);
-    contexts = gives_none more es d n ms x ended.acts Raises;
+    links = λ cs alone low.
+        let both : AreLinks 1 (length (es ++ block m d (events_of Raises n x))) (cs ++ changes_of Raises (length es) n) =
+        links_both 1 (length es) (length (es ++ block m d (events_of Raises n x))) cs (changes_of Raises (length es) n) (omega arith)
+        (let longer = length-append es (block m d (events_of Raises n x)) in omega (arith, longer)) alone raise_alone in
+        raising_links more es d n ms x cs alone low ended.names enough number first frame second there placed
+        (length (es ++ block m d (events_of Raises n x))) both;
+    alone = raise_alone;
+    below = (omega arith, (omega arith, tt));
+    within = is_within _ second;
     all = refl;
   }
-  group_of Returns ds ended for enough number is has first second = record {
+  group_of Returns ds changes ended for enough number is has first frame second there placed = record {
     comes = λ gs below.
         let few : d < length asked = omega (arith, asks_many (asked_of Returns n x ++ rest) is) in
         returning_comes asked more es d ms gs x v (asks_at (asked_of Returns n x ++ rest) 0 is) few has for;
@@ -149,10 +177,13 @@ module _ (asked : List Posed) (more : List Payload) (es : List Event) (qs rest :
     acts = refl;
     tells = λ k. returning_tells more k x;
     asks = (((work_object, x ∷ [], refl, refl, (has, tt)), refl), tt);
-    contexts = gives_none more es d n ms x ended.acts Returns;
+    links = λ cs alone low. returning_links more es d n ms x ended.acts (cs ++ []) (none_more cs alone (block m d (events_of Returns n x)));
+    alone = tt;
+    below = tt;
+    within = is_within _ second;
     all = refl;
   }
-  group_of Counts ds ended for enough number is has first second = record {
+  group_of Counts ds changes ended for enough number is has first frame second there placed = record {
     comes = λ gs below.
         let others : List Posed = asked_of Counts n x ++ rest in
         let few : suc (suc d) < length asked = omega (arith, asks_many others is) in
@@ -171,7 +202,10 @@ module _ (asked : List Posed) (more : List Payload) (es : List Event) (qs rest :
       ((count_object, x ∷ [], refl, refl, (has, tt)), refl),
       (((obj n, none_object, refl, leaves_generator, refl), refl), (((obj n, refl, leaves_generator), refl), tt)),
     );
-    contexts = gives_none more es d n ms x ended.acts Counts;
+    links = λ cs alone low. counting_links more es d n ms x ended.acts (cs ++ []) (none_more cs alone (block m d (events_of Counts n x)));
+    alone = tt;
+    below = tt;
+    within = is_within _ second;
     all = refl;
   }
 

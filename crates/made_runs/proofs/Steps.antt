@@ -22,7 +22,6 @@ use Rattle.py_grammar.specs.Grammar.{OfBody}
 use Rattle.py_run.specs.Run.{Posed, Plan, Phase, Idle, Asking, Going, Due, Act, Activation, State, requested_by}
 use Rattle.py_run.specs.Run.{entered_in, handled_among}
 use Rattle.py_run.specs.Generators.{Generator, running_at}
-use Rattle.py_run.specs.Raises.{raises_of, Tells}
 use Rattle.py_run.specs.Calls.{Course, Enters, Setting, entry_at, refusal, made_at, bound_by, CallsFunction, ExitsTo}
 use Rattle.py_run.specs.Coming.{Past, IsOfKind, Opens, Comes}
 use Rattle.py_meaning.specs.Whole.{plan_of, signature_of}
@@ -141,7 +140,7 @@ module _ (asked : List Posed) (more : List Payload) where
   truth_comes es d ms gs a b own rest k =
       let test : Request = request.Truth (truth_object b) in
       let there : HasPayload (store more) (truth_object b) (payload.Bool b) = truth_there more b in (
-        ((refl, refl), tt),
+        (refl, refl),
         ((refl, (truth b, (test, refl, inl (truth b, refl, (payload.Bool b, there, refl))), there)), k),
       )
 
@@ -152,7 +151,7 @@ module _ (asked : List Posed) (more : List Payload) where
       → Come (in_body es d a ms gs) (asks a (request.Global globals_object x) own v rest)
   global_comes es d ms gs a x v own rest is k =
       let global : Request = request.Global globals_object x in
-      (((refl, refl), tt), ((refl, (Is v, (global, refl, inl (Is v, refl, is)), refl)), k))
+      ((refl, refl), ((refl, (Is v, (global, refl, inl (Is v, refl, is)), refl)), k))
 
   -- an activation of a function that shows a text comes to its return
   shows_comes : (es : List Event) (d : ℕ) (act : Act) (ms : List Activation) (gs : List Generator) (a : ℕ)
@@ -168,7 +167,7 @@ module _ (asked : List Posed) (more : List Payload) where
     (
       (number ∙ sym (length_on ms (activation f vs)), kind),
       (
-        ((refl, refl), tt),
+        (refl, refl),
         (
           (refl, (Has payload.None, (request.Show text, refl, inl (Has payload.None, refl, refl)), refl)),
           ((refl, refl), k),
@@ -196,20 +195,20 @@ module _ (asked : List Posed) (more : List Payload) where
       (Enters enter_object []) =
       (refl, (enter, refl, inr (inr (inr (inr (inr (inr (inl (scope_object, refl, (_, refl, called)))))))))) in
       global_comes es d ms gs a (codes "scope") scope_object None (event.Ask a enter None 0 ∷ shown) refl (
-        ((refl, refl), tt),
+        (refl, refl),
         shows_comes open_events d act ms gs b enter_object open_object [] behind number opens
             (function_plain enter_object enter_function enter_tree refl refl refl)
             ((refl, (Is none_object, (enter, refl, refl), refl)), k),
       )
 
-  -- it is left, where its exit is told what it may be
+  -- it is left
   pub leaves_comes : (es : List Event) (d : ℕ) (r : Request) (ms : List Activation) (gs : List Generator) (a b : ℕ)
       (own : Option PyBaseExceptionRef) (c e t : Obj) (rest : List Event)
-      → IsAsked d r → b ≡ suc (length ms) → Tells (store more) es (raises_of es) (request.Exit scope_object c e t)
+      → IsAsked d r → b ≡ suc (length ms)
       → Come
       (in_body (on es (leaves a b own c e t [])) d a (ms ++ left_by (c ∷ e ∷ t ∷ []) ∷ []) (running_at b gs)) rest
       → Come (in_body es d a ms gs) (leaves a b own c e t rest)
-  leaves_comes es d r ms gs a b own c e t rest is number tells k =
+  leaves_comes es d r ms gs a b own c e t rest is number k =
       let exit : Request = request.Exit scope_object c e t in
       let told : List Obj = c ∷ e ∷ t ∷ [] in
       let act : Act = asking a exit own in
@@ -222,7 +221,7 @@ module _ (asked : List Posed) (more : List Payload) where
       let opens : Opens (plan asked) (store more) (past open_events d Asking (act ∷ []) ms gs)
       (Enters exit_object told) =
       (refl, (exit, refl, inr (inr (inr (inr (inr (inr (inr (scope_object, c, e, t, refl, exits))))))))) in (
-        ((refl, refl), tells),
+        (refl, refl),
         shows_comes open_events d act ms gs b exit_object close_object told
             (event.Got a (got.Value none_object) ∷ rest) number opens
             (function_plain exit_object exit_function exit_tree refl refl refl)
@@ -255,7 +254,7 @@ module _ (asked : List Posed) (more : List Payload) where
               function_plain work_object work_function work_tree refl refl refl,
             ),
             (
-              ((refl, refl), tt),
+              (refl, refl),
               ((refl, (truth b, (compare, refl, inl (truth b, refl, compared)), truth_there more b)), k),
             ),
           ),

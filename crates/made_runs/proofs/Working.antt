@@ -4,15 +4,13 @@ use Rattle.std.specs.Prelude.{Option, pos, int_lt}
 use Rattle.py_objects.specs.declared.refs.PyBaseExceptionRef.{PyBaseExceptionRef}
 use Rattle.py_objects.specs.declared.payload.Payload.{Payload}
 use Rattle.py_objects.specs.declared.payload.Payload.TheVariants as payload
-use Rattle.py_objects.specs.declared.request.Request.TheVariants as request
 use Rattle.py_objects.specs.declared.event.Event.{Event}
 use Rattle.py_objects.specs.Objects.{Obj, HasPayload}
 use Rattle.py_run.specs.Run.{Posed, Activation, Idle}
 use Rattle.py_run.specs.Generators.{Generator, running_at}
-use Rattle.py_run.specs.Raises.{raises_of, Tells}
 use Rattle.py_run.specs.Coming.{Past}
 use Rattle.made_runs.proofs.Lists.{length_on}
-use Rattle.made_runs.proofs.Objects.{store, scope_object, work_object}
+use Rattle.made_runs.proofs.Objects.{store, work_object}
 use Rattle.made_runs.proofs.Groups.{calls, worked, entered, left, begins, enters, leaves}
 use Rattle.made_runs.proofs.Steps.{Come, IsAsked, past, in_body, on, begins_comes, enters_comes, leaves_comes}
 
@@ -79,12 +77,11 @@ module _ (asked : List Posed) (more : List Payload) (es : List Event) (d : ℕ) 
       (enters_comes asked more (on es (begins (suc d) a x b [])) d (calls work_object x) (ms ++ worked x ∷ [])
       (running_at a gs) a (enter_act ms) rest called second_act k)
 
-  -- so may the exit, which is told what it may be
+  -- so may the exit
   pub leaves_scope : (own : Option PyBaseExceptionRef) (c e t : Obj) (rest : List Event)
-      → Tells (store more) es (raises_of es) (request.Exit scope_object c e t)
       → Come asked more
       (behind_exit (on es (leaves (work_act ms) (exit_act ms) own c e t [])) d ms gs x (c ∷ e ∷ t ∷ [])) rest
       → Come asked more (in_scope es d ms gs x) (leaves (work_act ms) (exit_act ms) own c e t rest)
-  leaves_scope own c e t rest tells k =
+  leaves_scope own c e t rest k =
       leaves_comes asked more es d (calls work_object x) (entered_acts ms x) (entered_generators ms gs)
-      (work_act ms) (exit_act ms) own c e t rest called third_act tells k
+      (work_act ms) (exit_act ms) own c e t rest called third_act k

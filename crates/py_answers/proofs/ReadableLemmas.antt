@@ -29,7 +29,7 @@ field_stays objects objects' link.Context v grows is = exception_stays objects o
 field_stays objects objects' link.Traceback v grows is = traceback_stays objects objects' v grows is
 field_stays objects objects' link.Next v grows is = is
 
-link_stays : (objects objects' : List Payload) (x : Edit) → Grows objects objects' → SetsLink objects x → SetsLink objects' x
+pub link_stays : (objects objects' : List Payload) (x : Edit) → Grows objects objects' → SetsLink objects x → SetsLink objects' x
 link_stays objects objects' x grows (inl (field, v, is, sets)) = inl (field, v, is, field_stays objects objects' field v grows sets)
 link_stays objects objects' x grows (inr flag) = inr flag
 

@@ -15,12 +15,12 @@ use Rattle.py_objects.specs.Values.{new_exception}
 use Rattle.py_exceptions.specs.Keeping.{os_args, os_attrs, kept_args, kept_attrs}
 use Rattle.py_answers.specs.Answers.{Raised, This, Called, BuiltIn, Reply, Has, Is, Makes, Creates, Fails, FailsFrom, Passes, Yields, Stops, Closes, IsInstance, IsCalled, IsRaised, IsRaisedFrom, IsRaise, GivesValue, GivesRaise, stop_args, for_body}
 use Rattle.py_answers.proofs.ReadingLemmas.{one_payload}
-use Rattle.py_run.specs.Raises.{IsTracebackOf}
+use Rattle.py_determined.specs.Raises.{IsTracebackOf}
 use Rattle.py_agreement.specs.Agreement.{Relation, SameException, SameMaybe, SameAll}
 use Rattle.py_determined.specs.Alike.{SameAttrs, AreAlike}
 use Rattle.py_determined.specs.Sameness.{SameRaised, SameReply}
 use Rattle.py_determined.proofs.AlikeLemmas.{derived_agree}
-use Rattle.py_determined.proofs.Pairing.{AreBorn}
+use Rattle.py_determined.proofs.Pairing.{AreBorn, IsBare}
 
 -- one tuple has one list of entries
 one_tuple : (objects : List Payload) (v : Obj) (vs ws : List Obj) → HasPayload objects v (payload.Tuple vs) → HasPayload objects v (payload.Tuple ws) → vs ≡ ws
@@ -110,6 +110,10 @@ module _ (S : Relation) where
     abbrev pub AreGiven : Obj → Obj → Type 0
     AreGiven v w = S v w ⊎ AreBorn S objects objects' es fs v w
 
+    -- the same of what an answer gives, which is no traceback where it is new, and has none
+    abbrev pub AreAnswered : Obj → Obj → Type 0
+    AreAnswered v w = S v w ⊎ (AreBorn S objects objects' es fs v w × IsBare objects v)
+
     -- the entries of two tuples are related, whatever they are read as
     arguments_same : (v w : Obj) (args args' vs ws : List Obj) → HasPayload objects v (payload.Tuple args) → HasPayload objects' w (payload.Tuple args') → SameAll S args args'
         → HasPayload objects v (payload.Tuple vs) → HasPayload objects' w (payload.Tuple ws) → SameAll S vs ws
@@ -189,31 +193,38 @@ module _ (S : Relation) where
       new_second = is'.new;
     }
 
+    -- an exception that a call makes is bare
+    called_bare : (c : PyTypeRef) (vs : List Obj) (v : Obj) → IsCalled objects es c vs v → IsBare objects v
+    called_bare c vs v (os, derived, is) = (_, is.entry, refl)
+
     -- the same raise
-    pub raise_given : (x y : Raised) (e f : PyBaseExceptionRef) → SameRaised S x y → IsRaise objects es x e → IsRaise objects' fs y f → AreGiven (as_object e) (as_object f)
+    pub raise_given : (x y : Raised) (e f : PyBaseExceptionRef) → SameRaised S x y → IsRaise objects es x e → IsRaise objects' fs y f → AreAnswered (as_object e) (as_object f)
     raise_given (This x) (This y) e f s is is' =
         inl (subst (λ (z : PyBaseExceptionRef). SameException S z f) (sym is) (subst (λ (z : PyBaseExceptionRef). SameException S x z) (sym is') s))
-    raise_given (Called c vs) (Called d ws) e f s is is' = inr (called_born c d vs ws (as_object e) (as_object f) s.0 s.1 is is')
+    raise_given (Called c vs) (Called d ws) e f s is is' = inr (called_born c d vs ws (as_object e) (as_object f) s.0 s.1 is is', called_bare c vs (as_object e) is)
     raise_given (BuiltIn k vs) (BuiltIn l ws) e f s (c, there, is) (d, there', is') =
-        inr (called_born c d vs ws (as_object e) (as_object f) (class_same k l c d s.0 there there') s.1 is is')
+        inr (called_born c d vs ws (as_object e) (as_object f) (class_same k l c d s.0 there there') s.1 is is', called_bare c vs (as_object e) is)
     raise_given _ _ e f s is is' = absurd s
 
     -- the value of the same reply
-    pub value_given : (x y : Reply) (v w : Obj) → SameReply S x y → GivesValue objects es x v → GivesValue objects' fs y w → AreGiven v w
+    pub value_given : (x y : Reply) (v w : Obj) → SameReply S x y → GivesValue objects es x v → GivesValue objects' fs y w → AreAnswered v w
     value_given (Has p) (Has q) v w s is is' = inl (alike.literals p v w s.1 is (subst (λ o. HasPayload objects' w o) (sym s.0) is'))
     value_given (Is x) (Is y) v w s is is' = inl (subst (λ (z : Obj). S z w) (sym is) (subst (λ (z : Obj). S x z) (sym is') s))
-    value_given (Makes c vs) (Makes d ws) v w s is is' = inr (called_born c d vs ws v w s.0 s.1 is is')
-    value_given (Creates b) (Creates c) v w s (new, has) (new', has') = inr (record {
-      first = payload.Generator b;
-      second = payload.Generator c;
-      has_first = has;
-      has_second = has';
-      is_first = refl;
-      is_second = refl;
-      alike = s;
-      new_first = new;
-      new_second = new';
-    })
+    value_given (Makes c vs) (Makes d ws) v w s is is' = inr (called_born c d vs ws v w s.0 s.1 is is', called_bare c vs v is)
+    value_given (Creates b) (Creates c) v w s (new, has) (new', has') = inr (
+      record {
+        first = payload.Generator b;
+        second = payload.Generator c;
+        has_first = has;
+        has_second = has';
+        is_first = refl;
+        is_second = refl;
+        alike = s;
+        new_first = new;
+        new_second = new';
+      },
+      (payload.Generator b, has, refl),
+    )
     value_given (Fails k t) y v w s is is' = absurd is
     value_given (FailsFrom k t e) y v w s is is' = absurd is
     value_given (Passes x) y v w s is is' = absurd is
@@ -223,9 +234,9 @@ module _ (S : Relation) where
     value_given _ _ v w s is is' = absurd s
 
     -- and its raise
-    pub raised_given : (x y : Reply) (e f : PyBaseExceptionRef) → SameReply S x y → GivesRaise objects es x e → GivesRaise objects' fs y f → AreGiven (as_object e) (as_object f)
-    raised_given (Fails k s) (Fails l t) e f same is is' = inr (raised_born k l s t e f same.0 same.1 is is')
-    raised_given (FailsFrom k s x) (FailsFrom l t y) e f same is is' = inr (raised_from_born k l s t x y e f same.0 same.1 same.2 is is')
+    pub raised_given : (x y : Reply) (e f : PyBaseExceptionRef) → SameReply S x y → GivesRaise objects es x e → GivesRaise objects' fs y f → AreAnswered (as_object e) (as_object f)
+    raised_given (Fails k s) (Fails l t) e f same is is' = inr (raised_born k l s t e f same.0 same.1 is is', (_, is.made.entry, refl))
+    raised_given (FailsFrom k s x) (FailsFrom l t y) e f same is is' = inr (raised_from_born k l s t x y e f same.0 same.1 same.2 is is', (_, is.entry, refl))
     raised_given (Passes x) (Passes y) e f same is is' = raise_given x y e f same is is'
     raised_given (Has p) y e f same is is' = absurd is
     raised_given (Is v) y e f same is is' = absurd is

@@ -21,7 +21,7 @@ use Rattle.py_coro.specs.declared.coro.CoroEnd.{CoroEnd}
 use Rattle.py_coro.specs.declared.coro.CoroEnd.TheVariants as left
 use Rattle.py_run.specs.Run.{Pose, Requests, Posed, Phase, Idle, Asking, Going, Made, Due, Act, Activation, State}
 use Rattle.py_run.specs.Generators.{Generator}
-use Rattle.py_run.specs.Raises.{Raise}
+use Rattle.py_determined.specs.Raises.{Raise}
 use Rattle.py_agreement.specs.Agreement.{Relation, SameException, SameMaybe, SameHandled, SameAll, SameRequest, SameAnswer, SameHow, SameEnding}
 use Rattle.py_determined.specs.Alike.{SameAttrs, Alike}
 use Rattle.py_determined.specs.Sameness.{SameTold, SameAsked, SameLeft, SameGenerators}

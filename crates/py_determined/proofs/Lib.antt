@@ -1,3 +1,5 @@
+-- what was raised
+pub mod RaisesLemmas
 -- when states and raises are the same
 pub mod SameStates
 -- what is seen of alike payloads
@@ -26,3 +28,9 @@ pub mod Phases
 pub mod Steps
 -- two runs of one script are the same
 pub mod RunsAgree
+-- exits are told the tracebacks of raises where they are told what exceptions have
+pub mod NamedBefore
+pub mod EntriesTold
+pub mod RaisesTold
+pub mod LinksTell
+pub mod AsksEach

@@ -2,7 +2,7 @@
 use Rattle.std.proofs.Common.{◌≡◌, ℕ, suc, ◌⊎◌, inl, inr, List, [], ◌∷◌, ◌++◌, Bool, true, false, eqb, length, Some, None, ◌||◌, refl, sym, ap, subst, ◌∙◌, append_assoc, arith}
 use Rattle.std.proofs.lemmas.Bool.{eqb-true, eq-eqb}
 use Rattle.std.proofs.lemmas.Option.{same_Some}
-use Rattle.std.specs.Prelude.{Option, slice_get}
+use Rattle.std.specs.Prelude.{Option, is_none, slice_get}
 use Rattle.py_objects.specs.declared.payload.Payload.{Payload}
 use Rattle.py_objects.specs.declared.payload.Payload.TheVariants as payload
 use Rattle.py_objects.specs.declared.refs.PyBaseExceptionRef.{PyBaseExceptionRef}
@@ -257,6 +257,16 @@ pub record AreBorn (S : Relation) (objects objects' : List Payload) (es fs : Lis
   pub alike : Alike S objects objects' first second
   pub new_first : IsNew objects es v.number
   pub new_second : IsNew objects' fs w.number
+
+-- whether an entry is no traceback, and has none
+abbrev pub is_bare : Payload → Bool
+is_bare (payload.Exception e) = is_none e.traceback
+is_bare (payload.Traceback t) = false
+is_bare _ = true
+
+-- an object has such an entry
+abbrev pub IsBare : List Payload → Obj → Type 0
+IsBare objects v = (p : Payload) × HasPayload objects v p × (is_bare p ≡ true)
 
 -- objects of payloads of which only one may be are two
 apart : (objects : List Payload) (test : Payload → Bool) (v w : Obj) (p q : Payload) → HasPayload objects v p → HasPayload objects w q → test p ≡ true → test q ≡ false → eqb v.number w.number ≡ false

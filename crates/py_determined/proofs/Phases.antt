@@ -19,7 +19,6 @@ use Rattle.py_coro.specs.declared.coro.CoroEnd.{CoroEnd}
 use Rattle.py_answers.specs.Answers.{Reply, Creates, IsRaise, GivesValue, GivesBody, GivesDrive}
 use Rattle.py_run.specs.Run.{Plan, Phase, Idle, Asking, Going, Made, Due, IsTop, question, forming}
 use Rattle.py_run.specs.Generators.{value_of, returned_by, generators_after}
-use Rattle.py_run.specs.Raises.{raises_of, Tells}
 use Rattle.py_run.specs.Calls.{Course, Says, Enters, Begins, Sends, Throws, ComesTo, IsDue}
 use Rattle.py_run.specs.Coming.{Past, setting, IsOfKind, MakesGenerator, IsReply, IsAnswered, MayCome}
 use Rattle.py_determined.proofs.StatesAgree.{IsPlain, ArePlain, running_plain, answered_plain}
@@ -45,7 +44,7 @@ module _ (plan : Plan) (objects : List Payload) where
 
   -- the innermost activation tells an event
   abbrev pub IsTold : Past → Event → Type 0
-  IsTold p (event.Ask a r own at) = IsTop a p.state.stack × Tells objects p.events (raises_of p.events) r
+  IsTold p (event.Ask a r own at) = IsTop a p.state.stack
   IsTold p (event.Round a at) = IsTop a p.state.stack
   IsTold p (event.Yield a v at) = IsTop a p.state.stack
   IsTold p (event.End a e at) = IsTop a p.state.stack
@@ -53,7 +52,7 @@ module _ (plan : Plan) (objects : List Payload) where
 
   -- an event that is told is the innermost activation's
   pub told_top : (p : Past) (e : Event) → IsTold p e → IsTop (whose e) p.state.stack
-  told_top p (event.Ask a r own at) told = told.0
+  told_top p (event.Ask a r own at) told = told
   told_top p (event.Round a at) told = told
   told_top p (event.Yield a v at) told = told
   told_top p (event.End a e at) told = told
@@ -68,7 +67,7 @@ module _ (plan : Plan) (objects : List Payload) where
   idle_next p (event.Resume a how.Start) starts = absurd starts
   idle_next p (event.Resume a (how.Send v)) (asks, opens) = absurd (cc asks)
   idle_next p (event.Resume a (how.Throw e)) (x, (asks, opens), raise) = absurd (cc asks)
-  idle_next p (event.Ask a r own at) ((goes, top), tells) = absurd (cc goes)
+  idle_next p (event.Ask a r own at) (goes, top) = absurd (cc goes)
   idle_next p (event.Got a w) (top, (reply, (r, open_, is), gives)) = absurd is
   idle_next p (event.Round a at) (goes, top) = absurd (cc goes)
   idle_next p (event.Yield a v at) (goes, top) = absurd (cc goes)
@@ -84,7 +83,7 @@ module _ (plan : Plan) (objects : List Payload) where
   asking_next p (event.Resume a how.Start) none (asks, (r, open_, comes)) = (r, Begins a, open_, comes, refl)
   asking_next p (event.Resume a (how.Send v)) none (asks, (r, open_, comes)) = (r, Sends a v, open_, comes, refl)
   asking_next p (event.Resume a (how.Throw e)) none (x, (asks, (r, open_, comes)), raise) = (r, Throws a x, open_, comes, (e, refl, raise))
-  asking_next p (event.Ask a r own at) none ((goes, top), tells) = absurd (cc goes)
+  asking_next p (event.Ask a r own at) none (goes, top) = absurd (cc goes)
   asking_next p (event.Got a w) none (top, (reply, (r, open_, is), gives)) = (r, Says reply, open_, is, (top, gives))
   asking_next p (event.Round a at) none (goes, top) = absurd (cc goes)
   asking_next p (event.Yield a v at) none (goes, top) = absurd (cc goes)
@@ -99,7 +98,7 @@ module _ (plan : Plan) (objects : List Payload) where
   going_next p (event.Resume a how.Start) starts = absurd starts
   going_next p (event.Resume a (how.Send v)) (asks, opens) = absurd (cc asks)
   going_next p (event.Resume a (how.Throw e)) (x, (asks, opens), raise) = absurd (cc asks)
-  going_next p (event.Ask a r own at) ((goes, top), tells) = (top, tells)
+  going_next p (event.Ask a r own at) (goes, top) = top
   going_next p (event.Got a w) (top, (reply, (r, open_, is), gives)) = absurd is
   going_next p (event.Round a at) (goes, top) = top
   going_next p (event.Yield a v at) (goes, top) = top
@@ -116,7 +115,7 @@ module _ (plan : Plan) (objects : List Payload) where
   made_next p f (event.Resume a how.Start) (last, kind) = inl (ap (λ n. event.Resume n how.Start) last, kind)
   made_next p f (event.Resume a (how.Send v)) (asks, opens) = absurd (cc asks)
   made_next p f (event.Resume a (how.Throw e)) (x, (asks, opens), raise) = absurd (cc asks)
-  made_next p f (event.Ask a r own at) ((goes, top), tells) = absurd (cc goes)
+  made_next p f (event.Ask a r own at) (goes, top) = absurd (cc goes)
   made_next p f (event.Got a w) (top, (reply, (r, open_, is), gives)) = inr (reply, is, (top, gives))
   made_next p f (event.Round a at) (goes, top) = absurd (cc goes)
   made_next p f (event.Yield a v at) (goes, top) = absurd (cc goes)
@@ -132,7 +131,7 @@ module _ (plan : Plan) (objects : List Payload) where
   due_next p left (event.Resume a how.Start) starts = absurd starts
   due_next p left (event.Resume a (how.Send v)) (asks, opens) = absurd (cc asks)
   due_next p left (event.Resume a (how.Throw e)) (x, (asks, opens), raise) = absurd (cc asks)
-  due_next p left (event.Ask a r own at) ((goes, top), tells) = absurd (cc goes)
+  due_next p left (event.Ask a r own at) (goes, top) = absurd (cc goes)
   due_next p left (event.Got a w) (top, (reply, (r, open_, is), gives)) = (r, reply, open_, is, (top, gives))
   due_next p left (event.Round a at) (goes, top) = absurd (cc goes)
   due_next p left (event.Yield a v at) (goes, top) = absurd (cc goes)

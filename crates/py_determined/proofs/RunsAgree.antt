@@ -8,13 +8,13 @@ use Rattle.py_objects.specs.Objects.{Obj}
 use Rattle.py_objects.specs.Own.{Own, whose, own_from, own_events}
 use Rattle.py_run.specs.Run.{Plan, Idle, Act, Activation, State, start, after, state_after, IsTop, question, forming}
 use Rattle.py_run.specs.Generators.{generators_after}
-use Rattle.py_run.specs.Raises.{raises_after, raises_of}
+use Rattle.py_determined.specs.Raises.{raises_after, raises_of, TellsRaise, TellRaises}
 use Rattle.py_run.specs.Coming.{May, Past, nothing, past_after, setting, IsReply, MayCome, Comes, EachTells}
 use Rattle.py_run.specs.Past.{past_behind}
 use Rattle.py_run.proofs.PastLemmas.{past_state, past_on}
 use Rattle.py_run.proofs.RunLemmas.{comes_front, asking_busy, going_busy, made_busy}
 use Rattle.py_run.proofs.OwnLemmas.{state_lists}
-use Rattle.py_run.proofs.RaisesLemmas.{raises_on}
+use Rattle.py_determined.proofs.RaisesLemmas.{raises_on}
 use Rattle.py_run.proofs.CoursesLemmas.{IsResumed, resumed}
 use Rattle.py_run.proofs.CutLemmas.{AreBelow, IsNumbered, numbered_behind}
 use Rattle.py_agreement.specs.Agreement.{Relation, SameMaybe, SameAll, Agree}
@@ -54,7 +54,7 @@ telling_of plan objects p (event.End a e at) told = tt
 telling_of plan objects p _ told = absurd told
 
 -- the innermost one was made among so many
-top_below : (made a : ℕ) (stack : List Act) → AreBelow made stack → IsTop a stack → a < suc made
+pub top_below : (made a : ℕ) (stack : List Act) → AreBelow made stack → IsTop a stack → a < suc made
 top_below made a [] below top = absurd top
 top_below made a (x ∷ stack) below top = let here = below.0 in omega (arith, here, top)
 
@@ -64,7 +64,7 @@ resumed_busy plan p a (inl (f, made, last)) idle = made_busy f (sym made ∙ idl
 resumed_busy plan p a (inr (asks, opens)) idle = asking_busy (sym asks ∙ idle)
 
 -- a number from 1 on is behind one
-behind_one : (a : ℕ) → 0 < a → (i : ℕ) × (a ≡ suc i)
+pub behind_one : (a : ℕ) → 0 < a → (i : ℕ) × (a ≡ suc i)
 behind_one zero some = absurd (omega (arith, some))
 behind_one (suc i) some = (i, refl)
 
@@ -81,21 +81,21 @@ module _ (plan plan' : Plan) (objects objects' : List Payload) (may may' : May) 
 
   module _ (script : OfOneScript) (comes : Comes plan objects nothing events) (comes' : Comes plan' objects' nothing events') (tells : EachTells may events) (tells' : EachTells may' events') where
     -- which objects two pasts relate
-    abbrev At : Past → Past → Relation
+    abbrev pub At : Past → Past → Relation
     At p q = Paired objects objects' p.events q.events
 
     -- two pasts are the same
-    record AreSame (p q : Past) : Type 0 where
-      count : length p.events ≡ length q.events
-      behind : p ≡ past_behind plan nothing p.events
-      behind' : q ≡ past_behind plan' nothing q.events
-      alike : AreAlike (At p q) objects objects'
-      recorded : SameEvents (At p q) p.events q.events
-      state : SameState (At p q) p.state q.state
-      generators : SameGenerators (At p q) p.generators q.generators
-      plain : ArePlain objects p.generators
-      raises : SameRaises (At p q) objects (raises_of p.events) (raises_of q.events)
-      posed : (p.state.phase ≡ Idle) ⊎ SameMaybe (SamePosed (At p q)) (slice_get plan.asked p.state.done) (slice_get plan'.asked q.state.done)
+    pub record AreSame (p q : Past) : Type 0 where
+      pub count : length p.events ≡ length q.events
+      pub behind : p ≡ past_behind plan nothing p.events
+      pub behind' : q ≡ past_behind plan' nothing q.events
+      pub alike : AreAlike (At p q) objects objects'
+      pub recorded : SameEvents (At p q) p.events q.events
+      pub state : SameState (At p q) p.state q.state
+      pub generators : SameGenerators (At p q) p.generators q.generators
+      pub plain : ArePlain objects p.generators
+      pub raises : SameRaises (At p q) objects (raises_of p.events) (raises_of q.events)
+      pub posed : (p.state.phase ≡ Idle) ⊎ SameMaybe (SamePosed (At p q)) (slice_get plan.asked p.state.done) (slice_get plan'.asked q.state.done)
 
     module _ (p q : Past) (e f : Event) (es fs : List Event) (is : events ≡ p.events ++ e ∷ es) (is' : events' ≡ q.events ++ f ∷ fs)
         (coming : MayCome plan objects p e) (coming' : MayCome plan' objects' q f) (same : AreSame p q) where
@@ -160,7 +160,7 @@ module _ (plan plan' : Plan) (objects objects' : List Payload) (may may' : May) 
               (subst (λ (r : State). slice_get r.made j ≡ Some z) (ap (λ r. state_after r ys) front ∙ sym (state_lists start xs ys)) (made_stays s ys j z found))
 
       -- so what it tells next does
-      telling : IsTold plan objects p e → IsTold plan' objects' q f → SameTelling (At p q) e f
+      pub telling : IsTold plan objects p e → IsTold plan' objects' q f → SameTelling (At p q) e f
       telling told told' =
           let top = told_top plan objects p e told in
           let top' = told_top plan' objects' q f told' in
@@ -186,116 +186,117 @@ module _ (plan plan' : Plan) (objects objects' : List Payload) (may may' : May) 
         | inr posed ↦ inr (forms_none (At p q) (slice_get plan.asked p.state.done) (slice_get plan'.asked q.state.done) posed)
       ]
 
-      next : AreNext (At p q) objects objects' p q e f
-      next =
-          phase_next plan plan' objects objects' script.signatures (At p q) same.alike p q same.state p.state.phase q.state.phase e f same.state.phase
-          same.raises open_now no_forms (λ going. telling) coming coming'
+      -- ---- behind it both are the same, where exits are told the tracebacks of raises
 
-      -- ---- behind it both are the same
+      module _ (told : TellsRaise objects p.events e) (told' : TellsRaise objects' q.events f) where
+        pub next : AreNext (At p q) objects objects' p q e f
+        next =
+            phase_next plan plan' objects objects' script.signatures (At p q) same.alike p q same.state p.state.phase q.state.phase e f same.state.phase
+            same.raises open_now no_forms (λ going. telling) told told' coming coming'
 
-      then_event : SameEvent Then e f
-      then_event = elim next.same [
-        | inl old ↦ event_grows (At p q) Then grows e f old
-        | inr (x, y, born, new, pair) ↦ event_grows (OrBoth (At p q) x y) Then (covered x y pair) e f new
-      ]
-        where
-          covered : (x y : Obj) → IsPair (paired (value_numbers e) (value_numbers f)) x y → (v w : Obj) → OrBoth (At p q) x y v w → Then v w
-          covered x y pair v w (inl s) = grows v w s
-          covered x y pair v w (inr (here, there)) = subst (λ (z : Obj). Then z w) (sym here) (subst (λ (z : Obj). Then x z) (sym there) (joins x y pair))
+        then_event : SameEvent Then e f
+        then_event = elim next.same [
+          | inl old ↦ event_grows (At p q) Then grows e f old
+          | inr (x, y, born, brings, new, pair) ↦ event_grows (OrBoth (At p q) x y) Then (covered x y pair) e f new
+        ]
+          where
+            covered : (x y : Obj) → IsPair (paired (value_numbers e) (value_numbers f)) x y → (v w : Obj) → OrBoth (At p q) x y v w → Then v w
+            covered x y pair v w (inl s) = grows v w s
+            covered x y pair v w (inr (here, there)) = subst (λ (z : Obj). Then z w) (sym here) (subst (λ (z : Obj). Then x z) (sym there) (joins x y pair))
 
-      then_alike : AreAlike Then objects objects'
-      then_alike = elim next.same [
-        | inl old ↦ no_more_alike (At p q) Then objects objects' grows (λ v w s. within old v w (splits v w s)) same.alike
-        | inr (x, y, born, new, pair) ↦
-            born_alike (At p q) Then objects objects' grows p.events q.events x y born (λ v w s. either x y new v w (splits v w s))
-            (new_left objects objects' p.events q.events x born.first born.has_first born.is_first born.new_first)
-            (new_right objects objects' p.events q.events y born.second born.has_second born.is_second born.new_second) same.alike
-      ]
-        where
-          within : SameEvent (At p q) e f → (v w : Obj) → At p q v w ⊎ IsPair (paired (value_numbers e) (value_numbers f)) v w → At p q v w
-          within old v w (inl s) = s
-          within old v w (inr pair) = pairs_related (At p q) (value_numbers e) (value_numbers f) v w (event_same (At p q) e f old) pair
+        then_alike : AreAlike Then objects objects'
+        then_alike = elim next.same [
+          | inl old ↦ no_more_alike (At p q) Then objects objects' grows (λ v w s. within old v w (splits v w s)) same.alike
+          | inr (x, y, born, brings, new, pair) ↦
+              born_alike (At p q) Then objects objects' grows p.events q.events x y born (λ v w s. either x y new v w (splits v w s))
+              (new_left objects objects' p.events q.events x born.first born.has_first born.is_first born.new_first)
+              (new_right objects objects' p.events q.events y born.second born.has_second born.is_second born.new_second) same.alike
+        ]
+          where
+            within : SameEvent (At p q) e f → (v w : Obj) → At p q v w ⊎ IsPair (paired (value_numbers e) (value_numbers f)) v w → At p q v w
+            within old v w (inl s) = s
+            within old v w (inr pair) = pairs_related (At p q) (value_numbers e) (value_numbers f) v w (event_same (At p q) e f old) pair
 
-          either : (x y : Obj) → SameEvent (OrBoth (At p q) x y) e f → (v w : Obj) → At p q v w ⊎ IsPair (paired (value_numbers e) (value_numbers f)) v w → OrBoth (At p q) x y v w
-          either x y new v w (inl s) = inl s
-          either x y new v w (inr pair) = pairs_related (OrBoth (At p q) x y) (value_numbers e) (value_numbers f) v w (event_same (OrBoth (At p q) x y) e f new) pair
+            either : (x y : Obj) → SameEvent (OrBoth (At p q) x y) e f → (v w : Obj) → At p q v w ⊎ IsPair (paired (value_numbers e) (value_numbers f)) v w → OrBoth (At p q) x y v w
+            either x y new v w (inl s) = inl s
+            either x y new v w (inr pair) = pairs_related (OrBoth (At p q) x y) (value_numbers e) (value_numbers f) v w (event_same (OrBoth (At p q) x y) e f new) pair
 
-      then_state : SameState Then p.state q.state
-      then_state = state_grows (At p q) Then grows p.state q.state same.state
+        then_state : SameState Then p.state q.state
+        then_state = state_grows (At p q) Then grows p.state q.state same.state
 
-      -- the drive that runs behind an event asks the same
-      then_posed : ((after p.state e).phase ≡ Idle) ⊎ SameMaybe (SamePosed Then) (slice_get plan.asked (after p.state e).done) (slice_get plan'.asked (after q.state f).done)
-      then_posed = posed_of e f then_event is is' coming coming' same.posed
-        where
-          stays : (p.state.phase ≡ Idle → ⊥) → (p.state.phase ≡ Idle) ⊎ SameMaybe (SamePosed (At p q)) (slice_get plan.asked p.state.done) (slice_get plan'.asked q.state.done)
-              → SameMaybe (SamePosed Then) (slice_get plan.asked p.state.done) (slice_get plan'.asked q.state.done)
-          stays busy (inl idle) = absurd (busy idle)
-          stays busy (inr posed) = maybe_grows (SamePosed (At p q)) (SamePosed Then) (posed_grows (At p q) Then grows) _ _ posed
+        -- the drive that runs behind an event asks the same
+        then_posed : ((after p.state e).phase ≡ Idle) ⊎ SameMaybe (SamePosed Then) (slice_get plan.asked (after p.state e).done) (slice_get plan'.asked (after q.state f).done)
+        then_posed = posed_of e f then_event is is' coming coming' same.posed
+          where
+            stays : (p.state.phase ≡ Idle → ⊥) → (p.state.phase ≡ Idle) ⊎ SameMaybe (SamePosed (At p q)) (slice_get plan.asked p.state.done) (slice_get plan'.asked q.state.done)
+                → SameMaybe (SamePosed Then) (slice_get plan.asked p.state.done) (slice_get plan'.asked q.state.done)
+            stays busy (inl idle) = absurd (busy idle)
+            stays busy (inr posed) = maybe_grows (SamePosed (At p q)) (SamePosed Then) (posed_grows (At p q) Then grows) _ _ posed
 
-          posed_of : (x y : Event) → SameEvent Then x y → events ≡ p.events ++ x ∷ es → events' ≡ q.events ++ y ∷ fs → MayCome plan objects p x → MayCome plan' objects' q y
-              → (p.state.phase ≡ Idle) ⊎ SameMaybe (SamePosed (At p q)) (slice_get plan.asked p.state.done) (slice_get plan'.asked q.state.done)
-              → ((after p.state x).phase ≡ Idle) ⊎ SameMaybe (SamePosed Then) (slice_get plan.asked (after p.state x).done) (slice_get plan'.asked (after q.state y).done)
-          posed_of (event.Drive d) (event.Drive d') s whole whole' (idle, step, more) (idle', step', more') posed =
-              let here : events ≡ p.events ++ event.Drive (suc p.state.done) ∷ es = subst (λ n. events ≡ p.events ++ event.Drive n ∷ es) step whole in
-              let there : events' ≡ q.events ++ event.Drive (suc p.state.done) ∷ fs =
-              subst (λ n. events' ≡ q.events ++ event.Drive n ∷ fs) (step' ∙ sym (ap suc same.state.done)) whole' in
-              let asked = script.drives p.events q.events es fs p.state.done here there same.count same.recorded in
-              inr (maybe_grows (SamePosed (At p q)) (SamePosed Then) (posed_grows (At p q) Then grows) _ _
-              (subst (λ n. SameMaybe (SamePosed (At p q)) (slice_get plan.asked p.state.done) (slice_get plan'.asked n)) same.state.done asked))
-          posed_of (event.Result d w) (event.Result d' w') s whole whole' may may' posed = inl refl
-          posed_of (event.Make a g vs) (event.Make b h ws) s whole whole' (step, (asks, opens)) may' posed = inr (stays (λ idle. asking_busy (sym asks ∙ idle)) posed)
-          posed_of (event.Resume a h) (event.Resume b h') s whole whole' may may' posed = inr (stays (λ idle. resumed_busy plan p a (resumed plan objects p a h may) idle) posed)
-          posed_of (event.Ask a r own at) (event.Ask b r' own' at') s whole whole' ((goes, top), told) may' posed = inr (stays (λ idle. going_busy (sym goes ∙ idle)) posed)
-          posed_of (event.Got a w) (event.Got b w') s whole whole' (top, (reply, (r, open_, is), gives)) may' posed =
-              inr (stays (λ idle. subst (λ x. IsReply plan objects p x r reply) idle is) posed)
-          posed_of (event.Round a at) (event.Round b at') s whole whole' (goes, top) may' posed = inr (stays (λ idle. going_busy (sym goes ∙ idle)) posed)
-          posed_of (event.Yield a v at) (event.Yield b w at') s whole whole' (goes, top) may' posed = inr (stays (λ idle. going_busy (sym goes ∙ idle)) posed)
-          posed_of (event.End a x at) (event.End b y at') s whole whole' (goes, top) may' posed = inr (stays (λ idle. going_busy (sym goes ∙ idle)) posed)
-          posed_of _ _ s whole whole' may may' posed = absurd s
+            posed_of : (x y : Event) → SameEvent Then x y → events ≡ p.events ++ x ∷ es → events' ≡ q.events ++ y ∷ fs → MayCome plan objects p x → MayCome plan' objects' q y
+                → (p.state.phase ≡ Idle) ⊎ SameMaybe (SamePosed (At p q)) (slice_get plan.asked p.state.done) (slice_get plan'.asked q.state.done)
+                → ((after p.state x).phase ≡ Idle) ⊎ SameMaybe (SamePosed Then) (slice_get plan.asked (after p.state x).done) (slice_get plan'.asked (after q.state y).done)
+            posed_of (event.Drive d) (event.Drive d') s whole whole' (idle, step, more) (idle', step', more') posed =
+                let here : events ≡ p.events ++ event.Drive (suc p.state.done) ∷ es = subst (λ n. events ≡ p.events ++ event.Drive n ∷ es) step whole in
+                let there : events' ≡ q.events ++ event.Drive (suc p.state.done) ∷ fs =
+                subst (λ n. events' ≡ q.events ++ event.Drive n ∷ fs) (step' ∙ sym (ap suc same.state.done)) whole' in
+                let asked = script.drives p.events q.events es fs p.state.done here there same.count same.recorded in
+                inr (maybe_grows (SamePosed (At p q)) (SamePosed Then) (posed_grows (At p q) Then grows) _ _
+                (subst (λ n. SameMaybe (SamePosed (At p q)) (slice_get plan.asked p.state.done) (slice_get plan'.asked n)) same.state.done asked))
+            posed_of (event.Result d w) (event.Result d' w') s whole whole' may may' posed = inl refl
+            posed_of (event.Make a g vs) (event.Make b h ws) s whole whole' (step, (asks, opens)) may' posed = inr (stays (λ idle. asking_busy (sym asks ∙ idle)) posed)
+            posed_of (event.Resume a h) (event.Resume b h') s whole whole' may may' posed = inr (stays (λ idle. resumed_busy plan p a (resumed plan objects p a h may) idle) posed)
+            posed_of (event.Ask a r own at) (event.Ask b r' own' at') s whole whole' (goes, top) may' posed = inr (stays (λ idle. going_busy (sym goes ∙ idle)) posed)
+            posed_of (event.Got a w) (event.Got b w') s whole whole' (top, (reply, (r, open_, is), gives)) may' posed =
+                inr (stays (λ idle. subst (λ x. IsReply plan objects p x r reply) idle is) posed)
+            posed_of (event.Round a at) (event.Round b at') s whole whole' (goes, top) may' posed = inr (stays (λ idle. going_busy (sym goes ∙ idle)) posed)
+            posed_of (event.Yield a v at) (event.Yield b w at') s whole whole' (goes, top) may' posed = inr (stays (λ idle. going_busy (sym goes ∙ idle)) posed)
+            posed_of (event.End a x at) (event.End b y at') s whole whole' (goes, top) may' posed = inr (stays (λ idle. going_busy (sym goes ∙ idle)) posed)
+            posed_of _ _ s whole whole' may may' posed = absurd s
 
-      -- a drive leaves the generators
-      drive_generators : (d : ℕ) (y : Event) → SameEvent Then (event.Drive d) y
-          → SameGenerators Then (generators_after plan p.state p.generators (event.Drive d)) (generators_after plan' q.state q.generators y)
-      drive_generators d (event.Drive d') s = generators_grow (At p q) Then grows p.generators q.generators same.generators
-      drive_generators d _ s = absurd s
+        -- a drive leaves the generators
+        drive_generators : (d : ℕ) (y : Event) → SameEvent Then (event.Drive d) y
+            → SameGenerators Then (generators_after plan p.state p.generators (event.Drive d)) (generators_after plan' q.state q.generators y)
+        drive_generators d (event.Drive d') s = generators_grow (At p q) Then grows p.generators q.generators same.generators
+        drive_generators d _ s = absurd s
 
-      then_generators : SameGenerators Then (generators_after plan p.state p.generators e) (generators_after plan' q.state q.generators f)
-      then_generators = elim same.posed [
-        | inl idle ↦
-            let (d, drive, step) = idle_next plan objects p e (subst (λ x. MayCome plan objects (at_phase p x) e) idle coming) in
-            subst (λ x. SameGenerators Then (generators_after plan p.state p.generators x) (generators_after plan' q.state q.generators f)) (sym drive)
-            (drive_generators d f (subst (λ x. SameEvent Then x f) drive then_event))
-        | inr posed ↦
-            generators_same Then objects objects' then_alike plan plan' p.state q.state p.generators q.generators e f then_state
-            (question_same Then plan plan' p.state q.state (maybe_grows (SamePosed (At p q)) (SamePosed Then) (posed_grows (At p q) Then grows) _ _ posed) then_state) same.plain
-            (generators_grow (At p q) Then grows p.generators q.generators same.generators) then_event
-      ]
+        then_generators : SameGenerators Then (generators_after plan p.state p.generators e) (generators_after plan' q.state q.generators f)
+        then_generators = elim same.posed [
+          | inl idle ↦
+              let (d, drive, step) = idle_next plan objects p e (subst (λ x. MayCome plan objects (at_phase p x) e) idle coming) in
+              subst (λ x. SameGenerators Then (generators_after plan p.state p.generators x) (generators_after plan' q.state q.generators f)) (sym drive)
+              (drive_generators d f (subst (λ x. SameEvent Then x f) drive then_event))
+          | inr posed ↦
+              generators_same Then objects objects' then_alike plan plan' p.state q.state p.generators q.generators e f then_state
+              (question_same Then plan plan' p.state q.state (maybe_grows (SamePosed (At p q)) (SamePosed Then) (posed_grows (At p q) Then grows) _ _ posed) then_state) same.plain
+              (generators_grow (At p q) Then grows p.generators q.generators same.generators) then_event
+        ]
 
-      then_raises : SameRaises Then objects (raises_of (p.events ++ e ∷ [])) (raises_of (q.events ++ f ∷ []))
-      then_raises =
-          let here : raises_after p.state (raises_of p.events) e ≡ raises_of (p.events ++ e ∷ []) = ap (λ s. raises_after s (raises_of p.events) e) state_is ∙ sym (raises_on p.events e) in
-          let there : raises_after q.state (raises_of q.events) f ≡ raises_of (q.events ++ f ∷ []) = ap (λ s. raises_after s (raises_of q.events) f) state_is' ∙ sym (raises_on q.events f) in
-          subst (λ l. SameRaises Then objects l (raises_of (q.events ++ f ∷ []))) here
-          (subst (λ l. SameRaises Then objects (raises_after p.state (raises_of p.events) e) l) there
-          (raises_same Then objects objects' then_alike p.state q.state (raises_of p.events) (raises_of q.events) e f then_state
-          (raises_grow (At p q) Then grows objects (raises_of p.events) (raises_of q.events) same.raises) then_event next.right))
+        then_raises : SameRaises Then objects (raises_of (p.events ++ e ∷ [])) (raises_of (q.events ++ f ∷ []))
+        then_raises =
+            let here : raises_after p.state (raises_of p.events) e ≡ raises_of (p.events ++ e ∷ []) = ap (λ s. raises_after s (raises_of p.events) e) state_is ∙ sym (raises_on p.events e) in
+            let there : raises_after q.state (raises_of q.events) f ≡ raises_of (q.events ++ f ∷ []) = ap (λ s. raises_after s (raises_of q.events) f) state_is' ∙ sym (raises_on q.events f) in
+            subst (λ l. SameRaises Then objects l (raises_of (q.events ++ f ∷ []))) here
+            (subst (λ l. SameRaises Then objects (raises_after p.state (raises_of p.events) e) l) there
+            (raises_same Then objects objects' then_alike p.state q.state (raises_of p.events) (raises_of q.events) e f then_state
+            (raises_grow (At p q) Then grows objects (raises_of p.events) (raises_of q.events) same.raises) then_event next.right))
 
-      then_same : AreSame (past_after plan p e) (past_after plan' q f)
-      then_same = record {
-        count =
-            let here : length (p.events ++ e ∷ []) ≡ length p.events + 1 = length-append p.events (e ∷ []) in
-            let there : length (q.events ++ f ∷ []) ≡ length q.events + 1 = length-append q.events (f ∷ []) in
-            let count : length p.events ≡ length q.events = same.count in omega (arith, here, there, count);
-        behind = ap (λ (r : Past). past_after plan r e) same.behind ∙ sym (past_on plan nothing p.events e);
-        behind' = ap (λ (r : Past). past_after plan' r f) same.behind' ∙ sym (past_on plan' nothing q.events f);
-        alike = then_alike;
-        recorded = events_on Then p.events q.events e f same.count (events_grow (At p q) Then grows p.events q.events same.recorded) then_event;
-        state = after_same Then p.state q.state e f then_state then_event;
-        generators = then_generators;
-        plain = plain_next plan objects p e coming same.plain;
-        raises = then_raises;
-        posed = then_posed;
-      }
+        pub then_same : AreSame (past_after plan p e) (past_after plan' q f)
+        then_same = record {
+          count =
+              let here : length (p.events ++ e ∷ []) ≡ length p.events + 1 = length-append p.events (e ∷ []) in
+              let there : length (q.events ++ f ∷ []) ≡ length q.events + 1 = length-append q.events (f ∷ []) in
+              let count : length p.events ≡ length q.events = same.count in omega (arith, here, there, count);
+          behind = ap (λ (r : Past). past_after plan r e) same.behind ∙ sym (past_on plan nothing p.events e);
+          behind' = ap (λ (r : Past). past_after plan' r f) same.behind' ∙ sym (past_on plan' nothing q.events f);
+          alike = then_alike;
+          recorded = events_on Then p.events q.events e f same.count (events_grow (At p q) Then grows p.events q.events same.recorded) then_event;
+          state = after_same Then p.state q.state e f then_state then_event;
+          generators = then_generators;
+          plain = plain_next plan objects p e coming same.plain;
+          raises = then_raises;
+          posed = then_posed;
+        }
 
     -- ---- all of them
 
@@ -313,20 +314,21 @@ module _ (plan plan' : Plan) (objects objects' : List Payload) (may may' : May) 
         )
 
     -- event by event, from two pasts that are the same
-    agree_from : (p q : Past) (es fs : List Event) → events ≡ p.events ++ es → events' ≡ q.events ++ fs → Comes plan objects p es → Comes plan' objects' q fs → AreSame p q → Agrees events events'
-    agree_from p q [] fs is is' rest rest' same =
+    agree_from : (p q : Past) (es fs : List Event) → events ≡ p.events ++ es → events' ≡ q.events ++ fs → Comes plan objects p es → Comes plan' objects' q fs
+        → TellRaises objects p.events es → TellRaises objects' q.events fs → AreSame p q → Agrees events events'
+    agree_from p q [] fs is is' rest rest' told told' same =
         subst (λ l. Agrees l events') (sym (is ∙ append-nil p.events))
         (subst (λ l. Agrees p.events l) (sym is') (ended p.events q.events fs same.count (same.recorded, same.alike)).1)
-    agree_from p q (e ∷ es) [] is is' rest rest' same =
+    agree_from p q (e ∷ es) [] is is' rest rest' told told' same =
         subst (λ l. Agrees events l) (sym (is' ∙ append-nil q.events))
         (subst (λ l. Agrees l q.events) (sym is) (ended p.events q.events (e ∷ es) same.count (same.recorded, same.alike)).0)
-    agree_from p q (e ∷ es) (f ∷ fs) is is' rest rest' same =
-        agree_from (past_after plan p e) (past_after plan' q f) es fs (is ∙ sym (append_assoc p.events (e ∷ []) es)) (is' ∙ sym (append_assoc q.events (f ∷ []) fs)) rest.1 rest'.1
-        (then_same p q e f es fs is is' rest.0 rest'.0 same)
+    agree_from p q (e ∷ es) (f ∷ fs) is is' rest rest' told told' same =
+        agree_from (past_after plan p e) (past_after plan' q f) es fs (is ∙ sym (append_assoc p.events (e ∷ []) es)) (is' ∙ sym (append_assoc q.events (f ∷ []) fs)) rest.1 rest'.1 told.1 told'.1
+        (then_same p q e f es fs is is' rest.0 rest'.0 same told.0 told'.0)
 
-    -- two runs of one script are the same as far as both go
-    pub runs_agree : Agrees events events'
-    runs_agree = agree_from nothing nothing events events' refl refl comes comes' (record {
+    -- nothing happened in both
+    pub first_same : AreSame nothing nothing
+    first_same = record {
       count = refl;
       behind = refl;
       behind' = refl;
@@ -337,4 +339,8 @@ module _ (plan plan' : Plan) (objects objects' : List Payload) (may may' : May) 
       plain = tt;
       raises = tt;
       posed = inl refl;
-    })
+    }
+
+    -- two runs of one script are the same as far as both go, where exits are told the tracebacks of raises
+    pub runs_agree : TellRaises objects [] events → TellRaises objects' [] events' → Agrees events events'
+    runs_agree told told' = agree_from nothing nothing events events' refl refl comes comes' told told' first_same

@@ -3,7 +3,7 @@ use Rattle.std.specs.Prelude.{List, [], ◌∷◌, false, ◌≡◌}
 use Rattle.py_objects.specs.declared.payload.Payload.{Payload}
 use Rattle.py_objects.specs.Objects.{HasPayload}
 use Rattle.py_run.specs.Run.{Pose, Requests, Posed, Phase, Idle, Asking, Going, Made, Due, Act, Activation, State}
-use Rattle.py_run.specs.Raises.{Raise}
+use Rattle.py_determined.specs.Raises.{Raise}
 use Rattle.py_agreement.specs.Agreement.{Relation, SameMaybe, SameHandled, SameAll, has_literal}
 use Rattle.py_determined.specs.Sameness.{SameAsked, SameLeft}
 

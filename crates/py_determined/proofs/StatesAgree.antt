@@ -25,7 +25,8 @@ use Rattle.py_coro.specs.Modes.{Mode, Running}
 use Rattle.py_coro.specs.Leaving.{mode_behind}
 use Rattle.py_run.specs.Run.{Pose, Requests, Posed, Plan, Phase, Idle, Asking, Going, Made, Due, Act, Activation, State, after, IsTop, top_asks, left_by, requested, makings, makings_of, open_in, question, entered_in, depth, handled_among}
 use Rattle.py_run.specs.Generators.{Generator, running_at, with_mode, unentered, closed_by, settled, created, answered, value_of, returned_by, generators_after}
-use Rattle.py_run.specs.Raises.{Raise, raise_of, with_raise, with_traceback, is_raising, raised_by, told_by, raises_after}
+use Rattle.py_run.specs.Raises.{is_raising, raised_by}
+use Rattle.py_determined.specs.Raises.{Raise, raise_of, with_raise, with_traceback, told_by, raises_after}
 use Rattle.py_run.specs.Coming.{Past, setting}
 use Rattle.py_agreement.specs.Agreement.{Relation, SameMaybe, SameHandled, SameAnswer, SameEnding, has_literal}
 use Rattle.py_determined.specs.Alike.{Alike, AreAlike}

@@ -21,7 +21,7 @@ use Rattle.py_objects.specs.Objects.{Obj, HasPayload, as_object, number_if}
 use Rattle.py_coro.specs.declared.coro.CoroEnd.{CoroEnd}
 use Rattle.py_answers.specs.Answers.{Reply, Has, Is, Makes, Creates, Fails, FailsFrom, Passes, Yields, Stops, Closes, GivesBody, GivesDrive, for_body}
 use Rattle.py_run.specs.Run.{Signature, Plan, Phase, Idle, Asking, Going, Made, Due, Act, IsTop, question, forming}
-use Rattle.py_run.specs.Raises.{Raise, raise_of, raises_of, IsToldOf, Tells}
+use Rattle.py_determined.specs.Raises.{Raise, raise_of, raises_of, IsToldOf, Tells, TellsRaise}
 use Rattle.py_run.specs.Calls.{Course, Says, Enters, Begins, Sends, Throws}
 use Rattle.py_run.specs.Coming.{Past, setting, IsOfKind, MakesGenerator, MayCome}
 use Rattle.py_agreement.specs.Agreement.{Relation, SameMaybe, SameHandled, SameRequest}
@@ -34,7 +34,7 @@ use Rattle.py_determined.proofs.CoursesAgree.{courses_agree, due_agree}
 use Rattle.py_determined.proofs.Requests.{BothAsk, BothUnbound, BothGlobal, BothBinary, BothCompare, BothTruth, BothMatch, BothHandled, BothRaisable, BothShow, BothCall, BothSend, BothThrow, BothClose, BothEnter, BothExit, BothNoExit, both_ask}
 use Rattle.py_determined.proofs.Growing.{requests_grow, handled_grows}
 use Rattle.py_determined.proofs.StatesAgree.{tops_same, made_count, raise_same, IsToldRight, AsksRight}
-use Rattle.py_determined.proofs.Pairing.{AreBorn}
+use Rattle.py_determined.proofs.Pairing.{AreBorn, IsBare}
 use Rattle.py_determined.proofs.Births.{AreGiven, body_same, raise_given, value_given, raised_given, not_both, nor_both, traceback_given}
 use Rattle.py_determined.proofs.Telling.{SameTelling}
 use Rattle.py_determined.proofs.Phases.{at_phase, IsAnswer, IsCourse, IsTold, idle_next, asking_next, going_next, made_next, due_next}
@@ -43,10 +43,20 @@ use Rattle.py_determined.proofs.Phases.{at_phase, IsAnswer, IsCourse, IsTold, id
 abbrev pub OrBoth : Relation → Obj → Obj → Obj → Obj → Type 0
 OrBoth S x y v w = S v w ⊎ ((v ≡ x) × (w ≡ y))
 
+-- an exit is told this as a traceback
+abbrev pub IsToldAs : Request → Obj → Type 0
+IsToldAs (request.Exit m c e t) x = x ≡ t
+IsToldAs _ x = ⊥
+
+-- what an event names that is new: the traceback that an exit is told, or what is no traceback, and has none
+abbrev pub Brings : List Payload → Event → Obj → Type 0
+Brings objects (event.Ask a r own at) x = IsToldAs r x
+Brings objects _ x = IsBare objects x
+
 -- two events are the same, or but for two objects that are new and alike, which both name at one place
 pub record AreNext (S : Relation) (objects objects' : List Payload) (p q : Past) (e f : Event) : Type 0 where
   pub same : SameEvent S e f
-      ⊎ ((x : Obj) × (y : Obj) × AreBorn S objects objects' p.events q.events x y × SameEvent (OrBoth S x y) e f × IsPair (paired (value_numbers e) (value_numbers f)) x y)
+      ⊎ ((x : Obj) × (y : Obj) × AreBorn S objects objects' p.events q.events x y × Brings objects e x × SameEvent (OrBoth S x y) e f × IsPair (paired (value_numbers e) (value_numbers f)) x y)
   pub right : AsksRight objects objects' e f
 
 -- two that may be there are there
@@ -138,11 +148,11 @@ module _ (plan plan' : Plan) (objects objects' : List Payload) (signatures : pla
       → Next (event.Got a w) (event.Got b w')
   got_next a b x y (got.Value v) (got.Value w) same s gives gives' = elim (value_given S objects objects' alike p.events q.events (for_body x) (for_body y) v w s gives gives') [
     | inl related ↦ record { same = inl (same, related); right = tt }
-    | inr born ↦ record { same = inr (v, w, born, (same, inr (refl, refl)), inl (refl, refl)); right = tt }
+    | inr (born, bare) ↦ record { same = inr (v, w, born, bare, (same, inr (refl, refl)), inl (refl, refl)); right = tt }
   ]
   got_next a b x y (got.Raise e) (got.Raise f) same s gives gives' = elim (raised_given S objects objects' alike p.events q.events (for_body x) (for_body y) e f s gives gives') [
     | inl related ↦ record { same = inl (same, related); right = tt }
-    | inr born ↦ record { same = inr (as_object e, as_object f, born, (same, inr (refl, refl)), inl (refl, refl)); right = tt }
+    | inr (born, bare) ↦ record { same = inr (as_object e, as_object f, born, bare, (same, inr (refl, refl)), inl (refl, refl)); right = tt }
   ]
   got_next a b x y (got.Value v) (got.Raise f) same s gives gives' = absurd (not_both S objects objects' alike p.events q.events (for_body x) (for_body y) v f s gives gives')
   got_next a b x y (got.Raise e) (got.Value w) same s gives gives' = absurd (nor_both S objects objects' alike p.events q.events (for_body x) (for_body y) e w s gives gives')
@@ -159,11 +169,11 @@ module _ (plan plan' : Plan) (objects objects' : List Payload) (signatures : pla
       → Next (event.Result d w) (event.Result d' w')
   result_next d d' x y (answer.Returns v) (answer.Returns w) same s kind gives gives' = elim (value_given S objects objects' alike p.events q.events x y v w s gives gives') [
     | inl related ↦ record { same = inl (same, related); right = tt }
-    | inr born ↦ record { same = inr (v, w, born, (same, inr (refl, refl)), inl (refl, refl)); right = tt }
+    | inr (born, bare) ↦ record { same = inr (v, w, born, bare, (same, inr (refl, refl)), inl (refl, refl)); right = tt }
   ]
   result_next d d' x y (answer.Raises e) (answer.Raises f) same s kind gives gives' = elim (raised_given S objects objects' alike p.events q.events x y e f s gives gives') [
     | inl related ↦ record { same = inl (same, related); right = tt }
-    | inr born ↦ record { same = inr (as_object e, as_object f, born, (same, inr (refl, refl)), inl (refl, refl)); right = tt }
+    | inr (born, bare) ↦ record { same = inr (as_object e, as_object f, born, bare, (same, inr (refl, refl)), inl (refl, refl)); right = tt }
   ]
   result_next d d' x y (answer.Yields v) (answer.Yields w) same s kind gives gives' = record { same = inl (same, yields_same x y v w s gives gives'); right = tt }
   result_next d d' x y (answer.Stops v) (answer.Stops w) same s kind gives gives' = record { same = inl (same, stops_same x y v w s gives gives'); right = tt }
@@ -199,7 +209,7 @@ module _ (plan plan' : Plan) (objects objects' : List Payload) (signatures : pla
         moved e _ f _ is is'
         (elim (raise_given S objects objects' alike p.events q.events x y k l s.1 raise raise') [
           | inl related ↦ record { same = inl (s.0, related); right = tt }
-          | inr born ↦ record { same = inr (as_object k, as_object l, born, (s.0, inr (refl, refl)), inl (refl, refl)); right = tt }
+          | inr (born, bare) ↦ record { same = inr (as_object k, as_object l, born, bare, (s.0, inr (refl, refl)), inl (refl, refl)); right = tt }
         ])
     course_next _ _ e f s is is' = absurd s
 
@@ -306,6 +316,7 @@ module _ (plan plan' : Plan) (objects objects' : List Payload) (signatures : pla
                 t,
                 t',
                 born,
+                refl,
                 (
                   same,
                   (requests_grow S (OrBoth S t t') (λ v w s. inl s) (request.Exit m c e t) (request.Exit m' c' e' t') asked, inr (refl, refl)),
@@ -333,29 +344,29 @@ module _ (plan plan' : Plan) (objects objects' : List Payload) (signatures : pla
       ask_kinds a b at at' own own' _ _ same handled (BothNoExit m m' s) asked tells tells' = record { same = inl (same, (asked, tt), handled); right = tt }
 
       -- what the innermost activations tell, where it agrees
-      pub told_next : (e f : Event) → SameTelling S e f → IsTold plan objects p e → IsTold plan' objects' q f → Next e f
-      told_next (event.Ask a r own at) (event.Ask b r' own' at') s (top, tells) (top', tells') =
+      pub told_next : (e f : Event) → SameTelling S e f → IsTold plan objects p e → IsTold plan' objects' q f → TellsRaise objects p.events e → TellsRaise objects' q.events f → Next e f
+      told_next (event.Ask a r own at) (event.Ask b r' own' at') s top top' tells tells' =
           ask_kinds a b at at' own own' r r' (tops_same S a b p.state.stack q.state.stack state.stack top top') s.1 (both_ask S r r' s.0) s.0 tells tells'
-      told_next (event.Round a at) (event.Round b at') s top top' = record { same = inl (tops_same S a b p.state.stack q.state.stack state.stack top top'); right = tt }
-      told_next (event.Yield a v at) (event.Yield b w at') s top top' = record { same = inl (tops_same S a b p.state.stack q.state.stack state.stack top top', s); right = tt }
-      told_next (event.End a e at) (event.End b f at') s top top' = record { same = inl (tops_same S a b p.state.stack q.state.stack state.stack top top', s); right = tt }
-      told_next _ _ s told told' = absurd s
+      told_next (event.Round a at) (event.Round b at') s top top' tells tells' = record { same = inl (tops_same S a b p.state.stack q.state.stack state.stack top top'); right = tt }
+      told_next (event.Yield a v at) (event.Yield b w at') s top top' tells tells' = record { same = inl (tops_same S a b p.state.stack q.state.stack state.stack top top', s); right = tt }
+      told_next (event.End a e at) (event.End b f at') s top top' tells tells' = record { same = inl (tops_same S a b p.state.stack q.state.stack state.stack top top', s); right = tt }
+      told_next _ _ s told told' tells tells' = absurd s
 
     -- what comes next, in each phase, where what is told next agrees
     pub phase_next : (x y : Phase) (e f : Event) → SamePhase S x y → SameRaises S objects (raises_of p.events) (raises_of q.events)
         → ((x ≡ Idle) ⊎ (SameSetting S (setting plan p) (setting plan' q) × SameMaybe (SameAsked S) (question plan p.state) (question plan' q.state)))
         → ((x ≡ Idle) ⊎ ((forming plan p.state ≡ None) × (forming plan' q.state ≡ None)))
-        → (x ≡ Going → IsTold plan objects p e → IsTold plan' objects' q f → SameTelling S e f)
+        → (x ≡ Going → IsTold plan objects p e → IsTold plan' objects' q f → SameTelling S e f) → TellsRaise objects p.events e → TellsRaise objects' q.events f
         → MayCome plan objects (at_phase p x) e → MayCome plan' objects' (at_phase q y) f → Next e f
-    phase_next Idle Idle e f phase raises open_ forms tells may may' = idle_same e f may may'
-    phase_next Asking Asking e f phase raises (inr (settings, questions)) (inr none) tells may may' = asking_same e f settings questions none may may'
-    phase_next Asking Asking e f phase raises (inl idle) forms tells may may' = absurd (cc idle)
-    phase_next Asking Asking e f phase raises (inr open_) (inl idle) tells may may' = absurd (cc idle)
-    phase_next Going Going e f phase raises open_ forms tells may may' =
+    phase_next Idle Idle e f phase raises open_ forms telling tells tells' may may' = idle_same e f may may'
+    phase_next Asking Asking e f phase raises (inr (settings, questions)) (inr none) telling tells tells' may may' = asking_same e f settings questions none may may'
+    phase_next Asking Asking e f phase raises (inl idle) forms telling tells tells' may may' = absurd (cc idle)
+    phase_next Asking Asking e f phase raises (inr open_) (inl idle) telling tells tells' may may' = absurd (cc idle)
+    phase_next Going Going e f phase raises open_ forms telling tells tells' may may' =
         let first = going_next plan objects p e may in
         let second = going_next plan' objects' q f may' in
-        told_next raises e f (tells refl first second) first second
-    phase_next (Made g) (Made h) e f phase raises open_ forms tells may may' = made_same g h e f phase may may'
-    phase_next (Due how) (Due how') e f phase raises (inr (settings, questions)) forms tells may may' = due_same how how' e f phase questions may may'
-    phase_next (Due how) (Due how') e f phase raises (inl idle) forms tells may may' = absurd (cc idle)
-    phase_next _ _ e f phase raises open_ forms tells may may' = absurd phase
+        told_next raises e f (telling refl first second) first second tells tells'
+    phase_next (Made g) (Made h) e f phase raises open_ forms telling tells tells' may may' = made_same g h e f phase may may'
+    phase_next (Due how) (Due how') e f phase raises (inr (settings, questions)) forms telling tells tells' may may' = due_same how how' e f phase questions may may'
+    phase_next (Due how) (Due how') e f phase raises (inl idle) forms telling tells tells' may may' = absurd (cc idle)
+    phase_next _ _ e f phase raises open_ forms telling tells tells' may may' = absurd phase

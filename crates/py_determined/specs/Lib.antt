@@ -6,5 +6,7 @@ pub mod Sameness
 pub mod Events
 -- which objects two runs relate
 pub mod Related
+-- which tracebacks exits are told, by what was raised
+pub mod Raises
 -- what follows
 pub mod Laws

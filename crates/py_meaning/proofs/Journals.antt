@@ -76,7 +76,7 @@ ascii_bytes (c ∷ s) h =
     let more = ascii_bytes s lower in
     cc
 
-all_below : (n : ℕ) (ms : List ℕ) → are_below n ms ≡ true → AllBelow n ms
+pub all_below : (n : ℕ) (ms : List ℕ) → are_below n ms ≡ true → AllBelow n ms
 all_below n [] h = tt
 all_below n (m ∷ ms) h = let (low, lower) = and_parts (nat_lt m n) _ h in (ltb-true m n low, all_below n ms lower)
 
@@ -389,7 +389,7 @@ module _ (t : Tree) where
       → Comes (plan_with qs) (with_more m n more) (past_behind (plan_with qs) nothing (entered 1 (asked 1 (object 3) (object 4) []))) rest → Comes (plan_with qs) (with_more m n more) nothing (entered 1 (asked 1 (object 3) (object 4) rest))
   asking_comes qs m n more rest few binds plain k = (
     (refl, refl, few),
-    ((refl, (refl, (_, refl, inr (inl (object 0, object 3 ∷ object 4 ∷ [], refl, binds))))), ((refl, is_of_kind _ _ _ _ _ _ refl refl plain), (((refl, refl), tt), k))),
+    ((refl, (refl, (_, refl, inr (inl (object 0, object 3 ∷ object 4 ∷ [], refl, binds))))), ((refl, is_of_kind _ _ _ _ _ _ refl refl plain), ((refl, refl), k))),
   )
 
   -- what gives the sum may answer that question

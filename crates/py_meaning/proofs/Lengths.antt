@@ -18,7 +18,7 @@ use Rattle.py_run.proofs.PastLemmas.{past_state}
 use Rattle.py_run.proofs.RunLemmas.{comes_rest, asking_busy, going_busy, made_busy, due_busy}
 use Rattle.py_agreement.specs.Agreement.{Relation}
 use Rattle.py_determined.specs.Events.{SameEvent, SameEvents}
-use Rattle.py_meaning.specs.Whole.{AreAsked, IsRunOf, plan_of, IsRun, IsWhole, IsRunFrom, IsWholeFrom, IsUnfinishedFrom}
+use Rattle.py_meaning.specs.Whole.{IsJournalOf, AreAsked, IsRunOf, plan_of, IsRun, IsWhole, IsRunFrom, IsWholeFrom, IsUnfinishedFrom}
 
 -- ---- behind a run that is done
 
@@ -30,7 +30,7 @@ module _ (plan : Plan) (objects : List Payload) where
   nothing_comes p (event.Resume a how.Start) idle all may = subst (λ (x : Phase). Starts plan objects p x a) idle may
   nothing_comes p (event.Resume a (how.Send v)) idle all may = asking_busy (sym may.0 ∙ idle)
   nothing_comes p (event.Resume a (how.Throw e)) idle all (x, opens, raise) = asking_busy (sym opens.0 ∙ idle)
-  nothing_comes p (event.Ask a r own at) idle all may = going_busy (sym may.0.0 ∙ idle)
+  nothing_comes p (event.Ask a r own at) idle all may = going_busy (sym may.0 ∙ idle)
   nothing_comes p (event.Round a at) idle all may = going_busy (sym may.0 ∙ idle)
   nothing_comes p (event.Yield a v at) idle all may = going_busy (sym may.0 ∙ idle)
   nothing_comes p (event.End a e at) idle all may = going_busy (sym may.0 ∙ idle)
@@ -64,11 +64,11 @@ pub record Follows (s s' : State) : Type 0 where
   pub done : s.done ≡ s'.done
   pub idle : s.phase ≡ Idle → s'.phase ≡ Idle
 
--- a run of a script is one of the other script that the bytes are
-pub run_of : (bytes : List ℕ) (s t : Script) (j : Journal) → IsScript bytes s → IsScript bytes t → IsRun t j → IsRunOf (decls_of s) s.drives j.objects j.events
-run_of bytes s t j is is' run =
+-- a journal of a script is one of the other script that the bytes are
+pub journal_of : (bytes : List ℕ) (s t : Script) (j : Journal) → IsScript bytes s → IsScript bytes t → IsRun t j → IsRun s j
+journal_of bytes s t j is is' run =
     let one = one_tree bytes t s is' is in
-    subst (λ (ds : List Decl). IsRunOf ds s.drives j.objects j.events) one.0 (subst (λ (l : List DriveLine). IsRunOf (decls_of t) l j.objects j.events) one.1 run.run)
+    subst (λ (ds : List Decl). IsJournalOf ds s.drives j) one.0 (subst (λ (l : List DriveLine). IsJournalOf (decls_of t) l j) one.1 run)
 
 module _ (S : Relation) where
   follows_after : (s s' : State) (e f : Event) → SameEvent S e f → Follows s s' → Follows (after s e) (after s' f)
@@ -109,7 +109,7 @@ module _ (S : Relation) where
     last_is_whole : (s t : Script) → IsScript bytes s → IsScript bytes t → IsRun s j → IsWhole s j → IsRun t j' → length j.events ≤ length j'.events
         → (length j'.events ≡ length j.events) × IsWhole t j'
     last_is_whole s t is is' run whole run' few =
-        let last = whole_is_last (decls_of s) s.drives j'.objects j.events j'.events same (run_of bytes s t j' is is' run') whole few in
+        let last = whole_is_last (decls_of s) s.drives j'.objects j.events j'.events same (journal_of bytes s t j' is is' run').run whole few in
         let drives : t.drives ≡ s.drives = (one_tree bytes t s is' is).1 in
         (last.0, subst (λ (l : List DriveLine). IsDone (length l) j'.events) (sym drives) last.1)
 

@@ -8,6 +8,9 @@ mod AlikeObjects
 mod AskedAgree
 mod TracesAgree
 mod OneScript
+-- where they look names up, and what exits are told
+mod GlobalsAsked
+mod ExitsTold
 -- how they end, and what is written of them
 mod Lengths
 mod TextsAgree

@@ -1,4 +1,5 @@
--- No text that is told reads the context of an exception: where contexts alone change, the text of events is that by the objects as they were made.
+-- No text that is told reads the context of an exception or its traceback: where these links alone change, the text of events is that by the objects as they
+-- were made.
 use Rattle.std.proofs.Common.{◌≡◌, ◌+◌, ◌∙◌, ℕ, zero, suc, Bool, true, false, Option, Some, None, List, [], ◌∷◌, ◌++◌, refl, sym, ap, ap₂}
 use Rattle.std.proofs.Math.Path.{fun_ext}
 use Rattle.std.specs.Prelude.{codes, encode_utf8_all, filter, nat_le, option_map, slice_get}
@@ -24,16 +25,16 @@ use Rattle.py_objects.proofs.Slots.{read_set}
 use Rattle.py_exceptions.specs.Repr.{payload_of, class_name, in_parentheses, items_of, Inner, repr_within, shown}
 use Rattle.py_exceptions.specs.Said.{attribute, given, os_said, said, said_by, syntax_said, text_at, text_in, unless_none}
 use Rattle.py_exceptions.specs.Texts.{details, raised, str_by, str_within}
-use Rattle.py_run.specs.Links.{AreContexts, is_context}
+use Rattle.py_run.specs.Links.{AreLinks, is_link}
 use Rattle.py_run.specs.declared.journal.Journal.{Journal}
 use Rattle.py_meaning.specs.Text.{event_text, events_text, numbered, request_text, result_text, shown_line, text_from, text_of}
 use Rattle.py_meaning.proofs.TextsAgree.{chosen}
 
--- ---- what is the same of an entry, whatever its context is
+-- ---- what is the same of an entry, whatever its links are
 
--- an entry as if it had no context
+-- an entry as if it had no context and no traceback
 abbrev bare : Payload → Payload
-bare (payload.Exception e) = payload.Exception (record e { context = None })
+bare (payload.Exception e) = payload.Exception (record e { context = None; traceback = None })
 bare p = p
 
 context_set : (objects : List Payload) (v : Option Obj) (p : Payload) → bare (edited objects (edit.Link link.Context v) p) ≡ bare p
@@ -41,15 +42,24 @@ context_set objects v (payload.Exception e) = refl
 context_set objects v (payload.Dict ps) = refl
 context_set objects v _ = refl
 
-edit_bare : (objects : List Payload) (x : Edit) (p : Payload) → is_context x ≡ true → bare (edited objects x p) ≡ bare p
+traceback_set : (objects : List Payload) (v : Option Obj) (p : Payload) → bare (edited objects (edit.Link link.Traceback v) p) ≡ bare p
+traceback_set objects v (payload.Exception e) = refl
+traceback_set objects v (payload.Dict ps) = refl
+traceback_set objects v (payload.Traceback t) = refl
+traceback_set objects v _ = refl
+
+edit_bare : (objects : List Payload) (x : Edit) (p : Payload) → is_link x ≡ true → bare (edited objects x p) ≡ bare p
 edit_bare objects (edit.Link link.Context v) p sets = context_set objects v p
+edit_bare objects (edit.Link link.Traceback v) p sets = traceback_set objects v p
+edit_bare objects (edit.Link link.Cause v) p sets = absurd (cc sets)
+edit_bare objects (edit.Link link.Next v) p sets = absurd (cc sets)
 edit_bare objects _ p sets = absurd (cc sets)
 
--- objects after changes of contexts alone, by each entry
+-- objects after changes of links alone, by each entry
 abbrev Bare : List Payload → List Payload → Type 0
 Bare now objects = (v : Obj) → option_map bare (payload_of now v) ≡ option_map bare (payload_of objects v)
 
-with_edit_bare : (objects : List Payload) (o : Obj) (x : Edit) → is_context x ≡ true → Bare (with_edit objects o x) objects
+with_edit_bare : (objects : List Payload) (o : Obj) (x : Edit) → is_link x ≡ true → Bare (with_edit objects o x) objects
 with_edit_bare objects o x sets v = by (slice_get objects o.number) refl
   where
     by : (q : Option Payload) → slice_get objects o.number ≡ q → option_map bare (slice_get (edited_entry objects x o.number q) v.number) ≡ option_map bare (slice_get objects v.number)
@@ -57,7 +67,7 @@ with_edit_bare objects o x sets v = by (slice_get objects o.number) refl
     by (Some p) is = read_set (option_map bare) objects o.number v.number p (edited objects x p) is (ap Some (edit_bare objects x p sets))
 
 -- those that were made by an event
-store_bare : (m n k : ℕ) (objects : List Payload) (cs : List Change) → AreContexts m n cs → Bare (store_at objects cs k) objects
+store_bare : (m n k : ℕ) (objects : List Payload) (cs : List Change) → AreLinks m n cs → Bare (store_at objects cs k) objects
 store_bare m n k objects [] are v = refl
 store_bare m n k objects (c ∷ cs) (sets, low, high, rest) v =
     by (nat_le c.after k) refl (store_bare c.after n k (with_edit objects c.object c.edit) cs rest v ∙ with_edit_bare objects c.object c.edit sets v) (store_bare c.after n k objects cs rest v)
@@ -70,9 +80,9 @@ store_bare m n k objects (c ∷ cs) (sets, low, high, rest) v =
 
 -- ---- what texts read
 
--- objects that are the same but for contexts, where each class derives from the same ones
+-- objects that are the same but for links, where each class derives from the same ones
 module _ (now objects : List Payload) (same : Bare now objects) (kinds : (v : Obj) (n : Name) → derives_from now v n ≡ derives_from objects v n) where
-  -- what doesn't read the context of an entry reads the same
+  -- what doesn't read the links of an entry reads the same
   read_bare : {A : Type 0} (f : Option Payload → A) → ((p : Option Payload) → f p ≡ f (option_map bare p)) → (v : Obj) → f (payload_of now v) ≡ f (payload_of objects v)
   read_bare f reads v = reads (payload_of now v) ∙ ap f (same v) ∙ sym (reads (payload_of objects v))
 
@@ -156,7 +166,7 @@ module _ (now objects : List Payload) (same : Bare now objects) (kinds : (v : Ob
   -- it doesn't read its context
   abbrev IsBlind : Says → Type 0
   IsBlind None = Unit {0}
-  IsBlind (Some says) = (e : ExceptionBody) (vs : List Obj) → says e vs ≡ says (record e { context = None }) vs
+  IsBlind (Some says) = (e : ExceptionBody) (vs : List Obj) → says e vs ≡ says (record e { context = None; traceback = None }) vs
 
   str_bare : (says : Says) (r : List ℕ) → IsBlind says → (p : Option Payload) → str_by says r now p ≡ str_by says r now (option_map bare p)
   str_bare None r blind None = refl
@@ -241,12 +251,12 @@ module _ (now objects : List Payload) (same : Bare now objects) (kinds : (v : Ob
 
 -- ---- events one after another
 
-linked_from : (m n k : ℕ) (objects : List Payload) (cs : List Change) (events : List Event) → AreContexts m n cs → text_from objects cs k events ≡ text_from objects [] k events
+linked_from : (m n k : ℕ) (objects : List Payload) (cs : List Change) (events : List Event) → AreLinks m n cs → text_from objects cs k events ≡ text_from objects [] k events
 linked_from m n k objects cs [] are = refl
 linked_from m n k objects cs (e ∷ es) are =
     ap₂ (λ first rest. first ++ rest) (event_same (store_at objects cs k) objects (store_bare m n k objects cs are) (changed_derives objects (filter (λ (c : Change). nat_le c.after k) cs)) e)
     (linked_from m n (k + 1) objects cs es are)
 
--- the text of a journal in which contexts alone change
-pub linked_text : (m n : ℕ) (j : Journal) → AreContexts m n j.changes → text_of j ≡ events_text j.objects [] j.events
+-- the text of a journal in which links alone change
+pub linked_text : (m n : ℕ) (j : Journal) → AreLinks m n j.changes → text_of j ≡ events_text j.objects [] j.events
 linked_text m n j are = linked_from m n 0 j.objects j.changes j.events are

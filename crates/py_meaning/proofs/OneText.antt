@@ -145,7 +145,7 @@ module _ (store : List Payload) (globals : Obj) (journal : List Event) (qs : Lis
   idle_next before s xs (event.Resume a (how.Send v)) p h = absurd (not_opened before s xs Idle _ p (λ e. cc) h)
   idle_next before s xs (event.Resume a (how.Throw e)) p h = absurd (not_opened before s xs Idle _ p (λ e. cc) h.1)
   idle_next before s xs (event.Got a w) p (top, (reply, (r, asks, replies), gives)) = absurd (subst (λ (x : Phase). IsReply plan store (past_with before s xs) x r reply) p replies)
-  idle_next before s xs (event.Ask a r own at) p h = absurd (cc h.0.0)
+  idle_next before s xs (event.Ask a r own at) p h = absurd (cc h.0)
   idle_next before s xs _ p h = absurd (cc h.0)
 
   -- the open question enters a function, and nothing else
@@ -176,7 +176,7 @@ module _ (store : List Payload) (globals : Obj) (journal : List Event) (qs : Lis
   asked_next before s (event.Resume a (how.Send v)) p q none only h = let (f, vs, is) = entered_alone before s _ only h in absurd (cc is)
   asked_next before s (event.Resume a (how.Throw e)) p q none only h = let (f, vs, is) = entered_alone before s _ only h.1 in absurd (cc is)
   asked_next before s (event.Got a w) p q none only h = absurd (subst (IsTop a) q h.0)
-  asked_next before s (event.Ask a r own at) p q none only h = absurd (cc h.0.0)
+  asked_next before s (event.Ask a r own at) p q none only h = absurd (cc h.0)
   asked_next before s _ p q none only h = absurd (cc h.0)
 
   -- the script's function makes no generator
@@ -191,7 +191,7 @@ module _ (store : List Payload) (globals : Obj) (journal : List Event) (qs : Lis
   made_next before s (event.Resume a (how.Send v)) f p h = absurd (not_opened before s [] (Made f) _ p (λ e. cc) h)
   made_next before s (event.Resume a (how.Throw e)) f p h = absurd (not_opened before s [] (Made f) _ p (λ e. cc) h.1)
   made_next before s (event.Got a w) f p (top, (reply, (r, asks, replies), gives)) = absurd (not_made before s f r reply (subst (λ (x : Phase). In before s x r reply) p replies))
-  made_next before s (event.Ask a r own at) f p h = absurd (cc h.0.0)
+  made_next before s (event.Ask a r own at) f p h = absurd (cc h.0)
   made_next before s _ f p h = absurd (cc h.0)
 
   -- the innermost activation tells something
@@ -204,7 +204,7 @@ module _ (store : List Payload) (globals : Obj) (journal : List Event) (qs : Lis
   going_next before s k (event.Resume a (how.Send v)) p h = absurd (not_opened before s [] Going _ p (λ e. cc) h)
   going_next before s k (event.Resume a (how.Throw e)) p h = absurd (not_opened before s [] Going _ p (λ e. cc) h.1)
   going_next before s k (event.Got a w) p (top, (reply, (r, asks, replies), gives)) = absurd (subst (λ (x : Phase). In before s x r reply) p replies)
-  going_next before s k (event.Ask a r own at) p h = (h.0.1, (_, refl))
+  going_next before s k (event.Ask a r own at) p h = (h.1, (_, refl))
   going_next before s k _ p h = (h.1, (_, refl))
 
   -- an open question is answered at once, by this
@@ -231,7 +231,7 @@ module _ (store : List Payload) (globals : Obj) (journal : List Event) (qs : Lis
   got_next before s (event.Resume a (how.Send v)) top x y p q t h = let (reply, is) = replied_alone before s top _ x y q t h in absurd (cc is)
   got_next before s (event.Resume a (how.Throw e)) top x y p q t h = let (reply, is) = replied_alone before s top _ x y q t h.1 in absurd (cc is)
   got_next before s (event.Got a w) top x y p q t (is_top, (reply, (r, asks, replies), gives)) = (w, refl, is_top, (reply, (r, asks, subst (λ (x : Phase). In before s x r reply) p replies), gives))
-  got_next before s (event.Ask a r own at) top x y p q t h = absurd (cc h.0.0)
+  got_next before s (event.Ask a r own at) top x y p q t h = absurd (cc h.0)
   got_next before s _ top x y p q t h = absurd (cc h.0)
 
   -- an activation was left
@@ -247,7 +247,7 @@ module _ (store : List Payload) (globals : Obj) (journal : List Event) (qs : Lis
   due_next before s (event.Resume a (how.Send v)) left p q call h = absurd (not_opened before s [] (Due left) _ p (λ e. cc) h)
   due_next before s (event.Resume a (how.Throw e)) left p q call h = absurd (not_opened before s [] (Due left) _ p (λ e. cc) h.1)
   due_next before s (event.Got a w) left p q call h = absurd (subst (IsTop a) q h.0)
-  due_next before s (event.Ask a r own at) left p q call h = absurd (cc h.0.0)
+  due_next before s (event.Ask a r own at) left p q call h = absurd (cc h.0)
   due_next before s _ left p q call h = absurd (cc h.0)
 
   -- a state in which so many drives are done

@@ -1,7 +1,5 @@
 -- Two runs of one script are the same as far as both go; which is longer, and which texts are one.
 use Rattle.std.proofs.Common.{◌≡◌, ◌≤◌, ◌<◌, ◌∙◌, ℕ, List, length, sym, arith}
-use Rattle.py_objects.specs.declared.payload.Payload.{Payload}
-use Rattle.py_objects.specs.declared.event.Event.{Event}
 use Rattle.py_lines.specs.declared.drive.DriveLine.{DriveLine}
 use Rattle.py_grammar.specs.Grammar.{Decl, codes_in}
 use Rattle.py_grammar.specs.Script.{decls_of}
@@ -12,27 +10,28 @@ use Rattle.py_determined.specs.Related.{Paired}
 use Rattle.py_determined.proofs.RunsAgree.{runs_agree}
 use Rattle.py_meaning.specs.Core.{IsCore, IsCoreFrom}
 use Rattle.py_meaning.specs.Earlier.{NameEarlier}
-use Rattle.py_meaning.specs.Whole.{IsRunOf, IsRunFrom, IsWholeFrom, IsUnfinishedFrom, Traces, plan_of}
+use Rattle.py_meaning.specs.Whole.{IsJournalOf, IsRunFrom, IsWholeFrom, IsUnfinishedFrom, Traces, plan_of}
 use Rattle.py_meaning.specs.Text.{text_of}
 use Rattle.py_meaning.proofs.CoreLemmas.{core_script}
 use Rattle.py_meaning.proofs.EarlierLemmas.{script_earlier}
 use Rattle.py_meaning.proofs.OneScript.{signatures_agree, first_alike, bodies_agree, drives_agree}
-use Rattle.py_meaning.proofs.Lengths.{run_of, no_longer, unfinished_shorter}
+use Rattle.py_meaning.proofs.ExitsTold.{exits_told}
+use Rattle.py_meaning.proofs.Lengths.{journal_of, no_longer, unfinished_shorter}
 use Rattle.py_meaning.proofs.TextsAgree.{texts_agree}
 use Rattle.py_meaning.proofs.LinkedText.{linked_text}
 
--- two runs of the same declarations and drives, where no declaration is a raw code
-module _ (decls : List Decl) (drives : List DriveLine) (core : IsCore decls) (earlier : NameEarlier drives) (objects objects' : List Payload) (events events' : List Event)
-    (run : IsRunOf decls drives objects events) (run' : IsRunOf decls drives objects' events') where
-  pub scripts_agree : SameEvents (Paired objects objects' events events') events events' × AreAlike (Paired objects objects' events events') objects objects'
+-- two journals of the same declarations and drives, where no declaration is a raw code
+module _ (decls : List Decl) (drives : List DriveLine) (core : IsCore decls) (earlier : NameEarlier drives) (j j' : Journal) (is : IsJournalOf decls drives j)
+    (is' : IsJournalOf decls drives j') where
+  pub scripts_agree : SameEvents (Paired j.objects j'.objects j.events j'.events) j.events j'.events × AreAlike (Paired j.objects j'.objects j.events j'.events) j.objects j'.objects
   scripts_agree =
-      runs_agree (plan_of (codes_in decls) run.asked) (plan_of (codes_in decls) run'.asked) objects objects' (Traces (codes_in decls) run.globals objects) (Traces (codes_in decls) run'.globals objects')
-      events events' (record {
-        signatures = signatures_agree decls drives earlier objects objects' events events' run run';
-        bodies = bodies_agree decls drives earlier objects objects' events events' run run' core;
-        alike = first_alike decls drives earlier objects objects' events events' run run';
-        drives = λ es fs more more' d is is' count same. drives_agree decls drives earlier objects objects' events events' run run' es fs more more' d is is' same;
-      }) run.run.comes run'.run.comes run.run.tells run'.run.tells
+      runs_agree (plan_of (codes_in decls) is.run.asked) (plan_of (codes_in decls) is'.run.asked) j.objects j'.objects (Traces (codes_in decls) is.run.globals j.objects)
+      (Traces (codes_in decls) is'.run.globals j'.objects) j.events j'.events (record {
+        signatures = signatures_agree decls drives earlier j.objects j'.objects j.events j'.events is.run is'.run;
+        bodies = bodies_agree decls drives earlier j.objects j'.objects j.events j'.events is.run is'.run core;
+        alike = first_alike decls drives earlier j.objects j'.objects j.events j'.events is.run is'.run;
+        drives = λ es fs more more' d here here' count same. drives_agree decls drives earlier j.objects j'.objects j.events j'.events is.run is'.run es fs more more' d here here' same;
+      }) is.run.run.comes is'.run.run.comes is.run.run.tells is'.run.run.tells (exits_told decls drives core earlier j is) (exits_told decls drives core earlier j' is')
 
 -- ---- journals of the script that bytes are, which has no raw code
 
@@ -47,7 +46,7 @@ module _ (bytes : List ℕ) (j j' : Journal) (core : IsCoreFrom bytes) where
   pub runs_agree_from : IsRunFrom bytes j → IsRunFrom bytes j'
       → SameEvents (Paired j.objects j'.objects j.events j'.events) j.events j'.events × AreAlike (Paired j.objects j'.objects j.events j'.events) j.objects j'.objects
   runs_agree_from (s, is, run) (t, is', run') =
-      scripts_agree (decls_of s) s.drives (core_script bytes s core is) (script_earlier bytes s is) j.objects j'.objects j.events j'.events run.run (run_of bytes s t j' is is' run')
+      scripts_agree (decls_of s) s.drives (core_script bytes s core is) (script_earlier bytes s is) j j' run (journal_of bytes s t j' is is' run')
 
   -- one that isn't whole is shorter than a whole one
   pub shorter : IsWholeFrom bytes j → IsUnfinishedFrom bytes j' → length j'.events < length j.events

@@ -194,11 +194,11 @@ comes = (
     (
       (refl, is_of_kind _ _ _ _ _ _ refl refl refl),
       (
-        ((refl, refl), tt),
+        (refl, refl),
         (
           (refl, (Is (object 0), (Global (object 4) (codes "g"), refl, inl (Is (object 0), refl, refl)), refl)),
           (
-            ((refl, refl), tt),
+            (refl, refl),
             (
               (refl, (refl, (_, refl, inr (inl (object 0, object 6 ∷ object 7 ∷ [], refl, runs _ _ _ _ _ _ _ refl refl refl))))),
               (

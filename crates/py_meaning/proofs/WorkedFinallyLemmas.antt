@@ -68,11 +68,11 @@ comes = (
     (
       (refl, is_of_kind _ _ _ _ _ _ refl refl refl),
       (
-        ((refl, refl), tt),
+        (refl, refl),
         (
           (refl, (Fails NameError (unknown_text (codes "z")), (Global (object 2) (codes "z"), refl, inl (Fails NameError (unknown_text (codes "z")), refl, refl)), raised_new)),
           (
-            ((refl, refl), tt),
+            (refl, refl),
             (
               (refl, (Has payload.None, (Showing (object 7), refl, inl (Has payload.None, refl, refl)), refl)),
               ((refl, refl), ((refl, refl, (Passes (This (exception 6)), inl (_, refl, (refl, refl)), refl)), tt)),

@@ -140,7 +140,7 @@ second_raises =
         (
           (refl, is_of_kind _ _ _ _ _ _ refl refl refl),
           (
-            ((refl, refl), tt),
+            (refl, refl),
             (
               sum_comes function both_plan greatest (pos 1) (error_objects OverflowError (error_entry OverflowError ∷ [])) asking 2 (got.Raise (exception 9)) refl refl refl
                   (overflows function 9 (error_entry OverflowError ∷ []) asking.events refl (refl, (refl, (refl, (refl, (refl, (refl, (refl, (refl, (refl, (refl, (refl, tt)))))))))))),

@@ -55,7 +55,7 @@ comes = (
     (refl, (refl, (_, refl, inr (inl (object 0, [], refl, runs _ _ _ _ _ _ _ refl refl refl))))),
     (
       (refl, is_of_kind _ _ _ _ _ _ refl refl refl),
-      ((refl, refl), (((refl, refl), tt), ((refl, (Has (payload.Bool true), (Truth (object 4), refl, inl (Has (payload.Bool true), refl, (payload.Bool true, refl, refl))), refl)), ((refl, refl), tt)))),
+      ((refl, refl), ((refl, refl), ((refl, (Has (payload.Bool true), (Truth (object 4), refl, inl (Has (payload.Bool true), refl, (payload.Bool true, refl, refl))), refl)), ((refl, refl), tt)))),
     ),
   ),
 )
@@ -185,7 +185,7 @@ unknown_comes = (
     (
       (refl, is_of_kind _ _ _ _ _ _ refl refl refl),
       (
-        ((refl, refl), tt),
+        (refl, refl),
         (
           (refl, (Fails NameError (unknown_text (codes "z")), (Global (object 2) (codes "z"), refl, inl (Fails NameError (unknown_text (codes "z")), refl, refl)), unknown_raised)),
           ((refl, refl), ((refl, refl, (Passes (This (exception 6)), inl (_, refl, (refl, refl)), refl)), tt)),

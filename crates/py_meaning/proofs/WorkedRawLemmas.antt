@@ -122,7 +122,7 @@ ended = event.End 1 (ending.Return (object 6)) 0 ∷ event.Result 1 (answer.Retu
 -- such a question may follow the entry, as far as this says
 sum_follows : Comes plan objects (past_behind plan nothing (entered 1 [])) sum_asked
 sum_follows = (
-  ((refl, refl), tt),
+  (refl, refl),
   (
     (refl, (_, (_, refl, inl (_, refl, (_, _, codes "int", codes "int", refl, refl, refl, refl, refl))), refl)),
     ((refl, refl), ((refl, refl, (Is (object 6), inl (_, refl, (refl, refl)), refl)), tt)),

@@ -1,8 +1,9 @@
 -- What the definitions say of the journal with a class, a manager and a with.
-use Rattle.std.proofs.Common.{◌≡◌, ◌+◌, length, eqb, eq-eqb, ℕ, zero, suc, List, [], ◌∷◌, ◌++◌, Some, None, true, false, refl, sym, ap, inl, inr, lit<, ⊎_elim, ◌∙◌, subst, arith}
+use Rattle.std.proofs.Common.{◌≡◌, ◌+◌, length, eqb, eq-eqb, ℕ, zero, suc, List, [], ◌∷◌, ◌++◌, Option, Some, None, true, false, refl, sym, ap, inl, inr, lit<, ⊎_elim, ◌∙◌, subst, arith}
 use Rattle.std.specs.Prelude.{pos, codes, decimal, slice_get}
 use Rattle.std.proofs.lemmas.Fmt.{decimal_digit}
 use Rattle.std.proofs.lemmas.List.Sorted.{IsPermutation-refl}
+use Rattle.py_objects.specs.declared.refs.PyBaseExceptionRef.{PyBaseExceptionRef}
 use Rattle.py_objects.specs.declared.payload.Payload.{Payload}
 use Rattle.py_objects.specs.declared.payload.Payload.TheVariants as payload
 use Rattle.py_objects.specs.declared.payload.ClassBody.{ClassBody}
@@ -134,11 +135,11 @@ comes = (
     (
       (refl, is_of_kind _ _ _ _ _ _ refl refl refl),
       (
-        ((refl, refl), tt),
+        (refl, refl),
         (
           (refl, (Is (object 2), (Global (object 10) (codes "m"), refl, inl (Is (object 2), refl, refl)), refl)),
           (
-            ((refl, refl), tt),
+            (refl, refl),
             (
               (refl, (refl, (_, refl, inr (inr (inr (inr (inr (inr (inl (object 2, refl, (_, refl, runs _ _ _ _ _ _ _ refl refl refl))))))))))),
               (
@@ -148,7 +149,7 @@ comes = (
                   (
                     (refl, (Is (object 13), (_, refl, refl), refl)),
                     (
-                      ((refl, refl), inl (refl, refl, refl)),
+                      (refl, refl),
                       (
                         (refl, (refl, (_, refl, inr (inr (inr (inr (inr (inr (inr (object 2, none_object, none_object, none_object, refl, (_, refl, runs _ _ _ _ _ _ _ refl refl refl))))))))))),
                         (
@@ -278,10 +279,18 @@ no_return_swallowed r =
     let number : 0 ≡ length first_objects + 13 = ap (λ (v : Obj). v.number) (one_end 10 end.0 none_object (object 13) end.1) in
     omega (arith, number)) behind) leaves) body
 
+-- what an exit is told is one object
+one_told : (a b : ℕ) (m m' c c' v v' t t' : Obj) (h h' : Option PyBaseExceptionRef) (ts us : List Own) → Asks a (Exit m c v t) h ∷ ts ≡ Asks b (Exit m' c' v' t') h' ∷ us → v ≡ v'
+one_told a b m m' c c' v v' t t' h h' ts us e = cc e
+
 pub no_value_told : IsRunOf decls drives objects told_value → ⊥
+unfolding own_from told_by
 no_value_told r =
-    ⊎_elim (λ none. let clash : Some (payload.Int (pos 7)) ≡ Some payload.None = none.1 in cc clash)
-    (λ raise. let clash : Some (payload.Int (pos 7)) ≡ Some (payload.Exception raise.0) = raise.1 in cc clash) r.run.comes.1.1.1.1.1.1.1.1.1.1.0.1
+    let body = behind_entry r.globals _ (told told_value refl r) (λ e. cc e) in
+    ⊎_elim (λ cut. cc cut.0) (λ leaves. ⊎_elim (λ cut. cc cut.0) (λ told. ⊎_elim (λ cut. cc cut.0) (λ asks.
+    let value : object 13 ≡ told.1 = one_told _ _ _ _ _ _ _ _ _ _ _ _ _ _ asks.3 in
+    let clash : Some (payload.Int (pos 7)) ≡ Some payload.None = subst (λ (v : Obj). HasPayload objects v payload.None) (sym value) told.4 in
+    cc clash) told.6) leaves) body
 
 -- the body of a class, and the first class above it
 body_of : (k l : ClassBody) → payload.Class k ≡ payload.Class l → k ≡ l

@@ -1,7 +1,6 @@
 -- What can't differ in two runs of one script.
 use Rattle.std.specs.Prelude.{ℕ, Some, Option, List, ◌≡◌, pos, slice_get}
 use Rattle.py_objects.specs.declared.refs.PyBaseExceptionRef.{PyBaseExceptionRef}
-use Rattle.py_objects.specs.declared.payload.Payload.{Payload}
 use Rattle.py_objects.specs.declared.payload.Payload.TheVariants as payload
 use Rattle.py_objects.specs.declared.payload.CoroBody.{CoroBody}
 use Rattle.py_objects.specs.declared.request.Request.TheVariants as request
@@ -13,16 +12,17 @@ use Rattle.py_grammar.specs.Grammar.{Decl}
 use Rattle.py_lines.specs.declared.drive.DriveLine.{DriveLine}
 use Rattle.py_meaning.specs.Core.{IsCore}
 use Rattle.py_meaning.specs.Earlier.{NameEarlier}
-use Rattle.py_meaning.specs.Whole.{IsRunOf}
+use Rattle.py_run.specs.declared.journal.Journal.{Journal}
+use Rattle.py_meaning.specs.Whole.{IsJournalOf}
 
--- prefixes of two runs of the same declarations and drives, where no declaration is a raw code
-pub record AreRuns (objects objects' : List Payload) (events events' : List Event) : Type 0 where
+-- two journals of the same declarations and drives, where no declaration is a raw code
+pub record AreRuns (j j' : Journal) : Type 0 where
   pub decls : List Decl
   pub drives : List DriveLine
   pub core : IsCore decls
   pub earlier : NameEarlier drives
-  pub run : IsRunOf decls drives objects events
-  pub run' : IsRunOf decls drives objects' events'
+  pub is : IsJournalOf decls drives j
+  pub is' : IsJournalOf decls drives j'
 
 -- at this place some activation gets this value
 abbrev pub Gets : List Event → ℕ → Obj → Type 0
@@ -35,16 +35,16 @@ LooksUp events i x = (a : ℕ) × (d : Obj) × (own : Option PyBaseExceptionRef)
 -- where the one run gets a 1, the other doesn't get a 2
 abbrev pub NoOtherAnswer : Type 0
 NoOtherAnswer =
-    (objects objects' : List Payload) (events events' : List Event) (i : ℕ) (v w : Obj) → AreRuns objects objects' events events' → Gets events i v → Gets events' i w
-    → HasPayload objects v (payload.Int (pos 1)) → HasPayload objects' w (payload.Int (pos 2)) → ⊥
+    (j j' : Journal) (i : ℕ) (v w : Obj) → AreRuns j j' → Gets j.events i v → Gets j'.events i w
+    → HasPayload j.objects v (payload.Int (pos 1)) → HasPayload j'.objects w (payload.Int (pos 2)) → ⊥
 
 -- where the one run looks up a name, the other doesn't look up another one, as it would if it went in another order
 abbrev pub NoOtherOrder : Type 0
 NoOtherOrder =
-    (objects objects' : List Payload) (events events' : List Event) (i : ℕ) (x y : Name) → AreRuns objects objects' events events' → LooksUp events i x → LooksUp events' i y → (x ≡ y → ⊥) → ⊥
+    (j j' : Journal) (i : ℕ) (x y : Name) → AreRuns j j' → LooksUp j.events i x → LooksUp j'.events i y → (x ≡ y → ⊥) → ⊥
 
 -- where the one run gets one generator at two places, the other doesn't get two
 abbrev pub NoOtherIdentity : Type 0
 NoOtherIdentity =
-    (objects objects' : List Payload) (events events' : List Event) (i k : ℕ) (v w w2 : Obj) (g : CoroBody) → AreRuns objects objects' events events'
-    → Gets events i v → Gets events k v → HasPayload objects v (payload.Generator g) → Gets events' i w → Gets events' k w2 → (w ≡ w2 → ⊥) → ⊥
+    (j j' : Journal) (i k : ℕ) (v w w2 : Obj) (g : CoroBody) → AreRuns j j'
+    → Gets j.events i v → Gets j.events k v → HasPayload j.objects v (payload.Generator g) → Gets j'.events i w → Gets j'.events k w2 → (w ≡ w2 → ⊥) → ⊥

@@ -1,6 +1,6 @@
 -- What any two runs of one script have in common, where it has no raw code: what such a code tells is not said by its
 -- meaning alone.
-use Rattle.std.specs.Prelude.{List, length, ℕ, ◌≡◌, ◌≤◌, ◌<◌}
+use Rattle.std.specs.Prelude.{List, [], length, ℕ, ◌≡◌, ◌≤◌, ◌<◌}
 use Rattle.py_objects.specs.declared.payload.Payload.{Payload}
 use Rattle.py_objects.specs.declared.event.Event.{Event}
 use Rattle.py_lines.specs.declared.drive.DriveLine.{DriveLine}
@@ -8,19 +8,26 @@ use Rattle.py_grammar.specs.Grammar.{Decl}
 use Rattle.py_run.specs.declared.journal.Journal.{Journal}
 use Rattle.py_determined.specs.Alike.{AreAlike}
 use Rattle.py_determined.specs.Events.{SameEvents}
+use Rattle.py_determined.specs.Raises.{TellRaises}
 use Rattle.py_determined.specs.Related.{Paired}
 use Rattle.py_meaning.specs.Core.{IsCore, IsCoreFrom}
 use Rattle.py_meaning.specs.Earlier.{NameEarlier}
-use Rattle.py_meaning.specs.Whole.{IsRunFrom, IsRunOf, IsUnfinishedFrom, IsWholeFrom}
+use Rattle.py_meaning.specs.Whole.{IsJournalOf, IsRunFrom, IsUnfinishedFrom, IsWholeFrom}
 use Rattle.py_meaning.specs.Text.{text_of}
 
--- what is said of the objects and events of each two runs of the same declarations and drives, where no declaration is a
+-- what is said of the objects and events of each two journals of the same declarations and drives, where no declaration is a
 -- raw code
 abbrev pub OfTwoRuns : ((objects objects' : List Payload) (events events' : List Event) → Type 0) → Type 0
 OfTwoRuns claim =
-    (decls : List Decl) (drives : List DriveLine) (objects objects' : List Payload) (events events' : List Event)
-    → IsCore decls → NameEarlier drives
-    → IsRunOf decls drives objects events → IsRunOf decls drives objects' events' → claim objects objects' events events'
+    (decls : List Decl) (drives : List DriveLine) (j j' : Journal) → IsCore decls → NameEarlier drives
+    → IsJournalOf decls drives j → IsJournalOf decls drives j' → claim j.objects j'.objects j.events j'.events
+
+-- an exit is told the traceback of the last raise of its exception: one and the same for that raise, and new the first time;
+-- where there was no raise it is told None
+abbrev pub ExitsAreTold : Type 0
+ExitsAreTold =
+    (decls : List Decl) (drives : List DriveLine) (j : Journal) → IsCore decls → NameEarlier drives
+    → IsJournalOf decls drives j → TellRaises j.objects [] j.events
 
 -- the events of both are the same, as far as both go, where two objects are related that the runs pair
 abbrev pub HaveSameEvents : (objects objects' : List Payload) (events events' : List Event) → Type 0

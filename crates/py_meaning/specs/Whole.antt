@@ -222,7 +222,7 @@ pub record IsRunOf (decls : List Decl) (drives : List DriveLine) (objects : List
   pub run : IsRunBy (Traces (codes_in decls) globals objects) (plan_of (codes_in decls) asked) objects events
   pub are_objects : AreObjects decls objects
 
--- the journal is a prefix of a run of these declarations and drives, and nothing changes in it but the contexts that exceptions get
+-- the journal is a prefix of a run of these declarations and drives, and nothing changes in it but the links that exceptions get
 pub record IsJournalOf (decls : List Decl) (drives : List DriveLine) (j : Journal) : Type 0 where
   pub run : IsRunOf decls drives j.objects j.events
   pub links : HasLinks (λ throws. TracesUnder throws (codes_in decls) run.globals j.objects) j

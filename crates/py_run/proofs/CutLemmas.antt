@@ -217,7 +217,7 @@ module _ (plan : Plan) where
     cut_after p (event.Make a f vs) (next, opens) n c = cut_made p a f vs next c
     cut_after p (event.Resume a h) may n c =
         cut_on p (event.Resume a h) (resumed_made plan p a n (resumed plan objects p a h may)) refl (λ b other runs. inr runs) (λ b is some. inr (inl (sym is))) c
-    cut_after p (event.Ask a r own at) ((going, top), tells) n c =
+    cut_after p (event.Ask a r own at) (going, top) n c =
         cut_on p (event.Ask a r own at) (top_made (length p.state.made) a p.state.stack n.stack top) refl (λ b other runs. runs_asks b p.state.stack (Some r) own at runs)
         (λ b is some. inr (runs_asks b p.state.stack (Some r) own at (top_runs a b p.state.stack top is))) c
     cut_after p (event.Got a w) (top, answers) n c =

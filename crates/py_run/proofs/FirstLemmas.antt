@@ -64,6 +64,11 @@ first_fit i p is = each_first FitsFirst (λ j q at. each_single FitsFirst (tt, t
 pub first_have : HaveClasses first_classes first_objects
 first_have = classes_there first_classes singletons (payload.Dict [] ∷ []) refl singles_plain
 
+-- the numbers before others
+pub below_front : (n : ℕ) (xs ys : List ℕ) → AllBelow n (xs ++ ys) → AllBelow n xs
+below_front n [] ys below = tt
+below_front n (x ∷ xs) ys below = (below.0, below_front n xs ys below.1)
+
 -- the numbers behind others
 pub below_behind : (n : ℕ) (xs ys : List ℕ) → AllBelow n (xs ++ ys) → AllBelow n ys
 below_behind n [] ys below = below

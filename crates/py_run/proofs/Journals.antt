@@ -37,7 +37,7 @@ are_below n [] = true
 are_below n (m ∷ ms) = nat_lt m n && are_below n ms
 
 -- what it says
-all_below : (n : ℕ) (ms : List ℕ) → are_below n ms ≡ true → AllBelow n ms
+pub all_below : (n : ℕ) (ms : List ℕ) → are_below n ms ≡ true → AllBelow n ms
 all_below n [] h = tt
 all_below n (m ∷ ms) h = let (low, lower) = and_parts (nat_lt m n) _ h in (ltb-true m n low, all_below n ms lower)
 

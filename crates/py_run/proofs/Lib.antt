@@ -2,10 +2,10 @@
 pub mod FirstLemmas
 -- the past behind some events
 pub mod PastLemmas
--- what was raised, and what exits are told
-pub mod RaisesLemmas
--- the contexts that come of events
+-- the links that come of events
 pub mod LinksLemmas
+pub mod MoreLinks
+pub mod TracebackLemmas
 pub mod NoLinks
 pub mod AddedLinks
 -- which numbers events name
@@ -14,7 +14,6 @@ pub mod NamedLemmas
 pub mod RunLemmas
 -- lists of generators, as events change them
 pub mod GeneratorsLemmas
-pub mod GivenLemmas
 -- what questions come to
 pub mod CoursesLemmas
 -- arguments that bind, and runs over more signatures
@@ -29,3 +28,4 @@ pub mod NestingLemmas
 mod Journals
 mod WorkedLemmas
 mod WorkedExitLemmas
+mod WorkedExitLinks

@@ -16,14 +16,14 @@ use Rattle.py_run.specs.Run.{State, Due, start, after, state_after}
 use Rattle.py_run.specs.Links.{is_fresh, named_by}
 
 -- what is among the numbers of two lists
-among_joined : (n : ℕ) (ms ns : List ℕ) → is_among n (ms ++ ns) ≡ (is_among n ms || is_among n ns)
+pub among_joined : (n : ℕ) (ms ns : List ℕ) → is_among n (ms ++ ns) ≡ (is_among n ms || is_among n ns)
 among_joined n [] ns = refl
 among_joined n (m ∷ ms) ns = ap (λ b. eqb n m || b) (among_joined n ms ns) ∙ sym (or_assoc (eqb n m) (is_among n ms) (is_among n ns))
 
-among_first : (n : ℕ) (ms ns : List ℕ) → is_among n ms ≡ true → is_among n (ms ++ ns) ≡ true
+pub among_first : (n : ℕ) (ms ns : List ℕ) → is_among n ms ≡ true → is_among n (ms ++ ns) ≡ true
 among_first n ms ns among = among_joined n ms ns ∙ ap (λ b. b || is_among n ns) among
 
-among_last : (n : ℕ) (ms ns : List ℕ) → is_among n ns ≡ true → is_among n (ms ++ ns) ≡ true
+pub among_last : (n : ℕ) (ms ns : List ℕ) → is_among n ns ≡ true → is_among n (ms ++ ns) ≡ true
 among_last n ms ns among = among_joined n ms ns ∙ ap (λ b. is_among n ms || b) among ∙ or-true (is_among n ms)
 
 -- what an event names, the events name

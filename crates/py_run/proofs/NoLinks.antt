@@ -1,29 +1,37 @@
--- Events of which no context comes, where nothing is changed.
-use Rattle.std.proofs.Common.{◌≡◌, ◌++◌, ◌&&◌, ◌||◌, Bool, true, false, not, is_none, Option, Some, None, List, [], ◌∷◌, refl}
+-- Events of which no link comes, where none is set.
+use Rattle.std.proofs.Common.{◌≡◌, ◌≤◌, ◌<◌, ◌+◌, ◌++◌, ◌&&◌, ℕ, suc, Bool, true, false, not, List, [], ◌∷◌, refl, length, length-append, arith}
 use Rattle.std.proofs.lemmas.Bool.{and_parts}
 use Rattle.py_objects.specs.declared.payload.Payload.{Payload}
-use Rattle.py_objects.specs.declared.refs.PyBaseExceptionRef.{PyBaseExceptionRef}
+use Rattle.py_objects.specs.declared.edit.Change.{Change}
+use Rattle.py_objects.specs.declared.request.Request.{Request}
+use Rattle.py_objects.specs.declared.request.Request.TheVariants as request
 use Rattle.py_objects.specs.declared.event.GotAnswer.{GotAnswer}
 use Rattle.py_objects.specs.declared.event.GotAnswer.TheVariants as got
 use Rattle.py_objects.specs.declared.event.ResumeHow.TheVariants as how
 use Rattle.py_objects.specs.declared.event.Event.{Event}
 use Rattle.py_objects.specs.declared.event.Event.TheVariants as event
-use Rattle.py_objects.specs.Objects.{as_exception}
-use Rattle.py_run.specs.Run.{Act, State, after, handled_among}
+use Rattle.py_objects.specs.Objects.{Obj}
+use Rattle.py_run.specs.Run.{Act, State, after}
 use Rattle.py_run.specs.Raises.{is_raising}
-use Rattle.py_run.specs.Links.{ComeOf, ComeOfTop, ContextsCome, GetsContext, GivesContext, MayUnder, Scene, is_fresh, scene_at}
+use Rattle.py_run.specs.Links.{AsksNow, ComeOf, ComeOfTop, Lines, LinksCome, MayUnder, RaisesIf, Scene, TellsNow, links_at, scene_at}
 
--- whether an answer raises nothing in the innermost of these activations, or nothing is handled there
-abbrev pub gives_nothing : List Act → GotAnswer → Bool
-gives_nothing [] w = false
-gives_nothing (top ∷ rest) (got.Value v) = not (is_raising top.asks) || is_none (handled_among (top ∷ rest))
-gives_nothing (top ∷ rest) (got.Stop v) = true
-gives_nothing (top ∷ rest) (got.Raise e) = is_none (handled_among (top ∷ rest))
+-- whether an answer raises nothing in the innermost of these activations
+abbrev pub raises_nothing : List Act → GotAnswer → Bool
+raises_nothing [] w = false
+raises_nothing (top ∷ rest) (got.Value v) = not (is_raising top.asks)
+raises_nothing (top ∷ rest) (got.Stop v) = true
+raises_nothing (top ∷ rest) (got.Raise e) = false
 
--- whether an event throws nothing in, and answers so
+-- whether a question tells of no exception
+abbrev pub tells_nothing : Request → Bool
+tells_nothing (request.Exit x c e t) = false
+tells_nothing _ = true
+
+-- whether an event throws nothing in, tells of nothing, and raises nothing
 abbrev pub links_nothing : State → Event → Bool
 links_nothing s (event.Resume a (how.Throw e)) = false
-links_nothing s (event.Got a w) = gives_nothing s.stack w
+links_nothing s (event.Ask a r own at) = tells_nothing r
+links_nothing s (event.Got a w) = raises_nothing s.stack w
 links_nothing s _ = true
 
 -- whether each of these events does, behind those that come to this state
@@ -31,37 +39,44 @@ abbrev pub link_nothing : State → List Event → Bool
 link_nothing s [] = true
 link_nothing s (e ∷ es) = links_nothing s e && link_nothing (after s e) es
 
--- where nothing is handled no context is given
-gives_none : (h : Option PyBaseExceptionRef) (now : List Payload) (e : PyBaseExceptionRef) → is_none h ≡ true → GivesContext now h e []
-gives_none None now e none = refl
-gives_none (Some h) now e none = absurd (cc none)
+-- no link was set at the events from a number on, as many as these
+abbrev pub NoneSet : List Change → ℕ → List Event → Type 0
+NoneSet changes n es = (k : ℕ) → n ≤ k → k < n + length es → links_at (suc k) changes ≡ []
 
-gets_none : (b : Bool) (z : Scene) (e : PyBaseExceptionRef) → (not b || is_none (handled_among z.state.stack)) ≡ true → GetsContext b z e []
-gets_none false z e none = refl
-gets_none true z e none = gives_none (handled_among z.state.stack) z.now e none
+asks_none : (made now : List Payload) (r : Request) → tells_nothing r ≡ true → AsksNow made now r
+asks_none made now (request.Exit x c e t) none = absurd (cc none)
+asks_none made now _ none = tt
 
-gets_where_none : (b : Bool) (z : Scene) (e : PyBaseExceptionRef) → is_none (handled_among z.state.stack) ≡ true → GetsContext b z e []
-gets_where_none false z e none = refl
-gets_where_none true z e none = gives_none (handled_among z.state.stack) z.now e none
+module _ (may : MayUnder) (lines : Lines) (made : List Payload) (changes : List Change) where
+  tells_none : (s : State) (now : List Payload) (e : Event) → links_nothing s e ≡ true → TellsNow made now e
+  tells_none s now (event.Ask a r own at) none = asks_none made now r none
+  tells_none s now _ none = tt
 
-module _ (may : MayUnder) (made : List Payload) where
-  top_none : (before : List Event) (s : State) (stack : List Act) (w : GotAnswer) → s.stack ≡ stack → gives_nothing stack w ≡ true
-      → ComeOfTop stack (scene_at may made [] before s) w []
-  top_none before s [] w is none = absurd (cc none)
-  top_none before s (top ∷ rest) (got.Value v) is none = gets_none (is_raising top.asks) (scene_at may made [] before s) (as_exception v) (rw is none)
-  top_none before s (top ∷ rest) (got.Stop v) is none = refl
-  top_none before s (top ∷ rest) (got.Raise e) is none = gets_where_none (is_fresh before e) (scene_at may made [] before s) e (rw is none)
+  raises_none : (b : Bool) (z : Scene) (act at : ℕ) (v : Obj) → not b ≡ true → RaisesIf lines made b z act at v []
+  raises_none false z act at v none = refl
+  raises_none true z act at v none = absurd (cc none)
 
-  come_none : (before : List Event) (s : State) (e : Event) → links_nothing s e ≡ true → ComeOf may (scene_at may made [] before s) e []
+  top_none : (z : Scene) (stack : List Act) (act : ℕ) (w : GotAnswer) → raises_nothing stack w ≡ true → ComeOfTop lines made stack z act w []
+  top_none z [] act w none = absurd (cc none)
+  top_none z (top ∷ rest) act (got.Value v) none = raises_none (is_raising top.asks) z act top.at v none
+  top_none z (top ∷ rest) act (got.Stop v) none = refl
+  top_none z (top ∷ rest) act (got.Raise e) none = absurd (cc none)
+
+  come_none : (before : List Event) (s : State) (e : Event) → links_nothing s e ≡ true → ComeOf may lines made (scene_at may lines made changes before s) e []
   come_none before s (event.Resume a how.Start) none = refl
   come_none before s (event.Resume a (how.Send v)) none = refl
   come_none before s (event.Resume a (how.Throw e)) none = absurd (cc none)
-  come_none before s (event.Got a w) none = top_none before s s.stack w refl none
+  come_none before s (event.Ask a r own at) none = refl
+  come_none before s (event.Got a w) none = top_none (scene_at may lines made changes before s) s.stack a w none
   come_none before s _ none = refl
 
-  -- where each of these events links nothing, the contexts that come of them are none
-  pub no_contexts : (before : List Event) (s : State) (es : List Event) → link_nothing s es ≡ true → ContextsCome may made [] before s es
-  no_contexts before s [] none = tt
-  no_contexts before s (e ∷ es) none =
+  -- where each of these events links nothing, the links that come of them are none
+  pub no_links : (before : List Event) (s : State) (es : List Event) → link_nothing s es ≡ true → NoneSet changes (length before) es → LinksCome may lines made changes before s es
+  no_links before s [] none unset = tt
+  no_links before s (e ∷ es) none unset =
       let (first, rest) = and_parts (links_nothing s e) _ none in
-      (([], come_none before s e first, refl), no_contexts (before ++ e ∷ []) (after s e) es rest)
+      let longer : length (before ++ e ∷ []) ≡ length before + 1 = length-append before (e ∷ []) in (
+        tells_none s _ e first,
+        ([], come_none before s e first, unset (length before) (omega arith) (omega arith)),
+        no_links (before ++ e ∷ []) (after s e) es rest (λ k low high. unset k (omega (arith, low, longer)) (omega (arith, high, longer))),
+      )

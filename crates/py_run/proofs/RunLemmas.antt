@@ -34,8 +34,6 @@ use Rattle.py_run.specs.Generators.{Generator, answered, value_of, returned_by}
 use Rattle.py_run.specs.Calls.{Course, Says, Enters, Begins, Sends, Throws, Setting, CallsFunction, IsKept, ThrowsAs, SendsTo, ThrowsTo, ClosesTo, EntersTo, ExitsTo, exit_of, ComesTo, LeavesGenerator, IsDue}
 use Rattle.py_run.specs.Coming.{Past, nothing, past_after, setting, IsOfKind, Opens, Starts, IsEntered, MakesGenerator, IsReply, IsAnswered, IsFormed, MayCome, Comes}
 use Rattle.py_run.specs.Past.{past_behind}
-use Rattle.py_run.specs.Raises.{raises_of}
-use Rattle.py_run.proofs.RaisesLemmas.{tells_grow}
 
 -- ---- what questions come to, as objects come
 
@@ -194,7 +192,7 @@ may_come_grow plan objects objects' p (event.Result d w) grows (next, alone, (re
     (next, alone, (reply, result_grows plan objects objects' p reply grows answered, gives_drive_grow objects objects' p.events reply w grows gives))
 may_come_grow plan objects objects' p (event.Make a f vs) grows (next, opens) = (next, opens_grow plan objects objects' p (Enters f vs) grows opens)
 may_come_grow plan objects objects' p (event.Resume a h) grows enters = entered_grows plan objects objects' p h a grows enters
-may_come_grow plan objects objects' p (event.Ask a r own at) grows (goes, tells) = (goes, tells_grow objects objects' p.events (raises_of p.events) r grows tells)
+may_come_grow plan objects objects' p (event.Ask a r own at) grows goes = goes
 may_come_grow plan objects objects' p (event.Got a w) grows (top, (reply, answered, gives)) =
     (top, (reply, answered_grows plan objects objects' p reply grows answered, gives_body_grow objects objects' p.events reply w grows gives))
 may_come_grow plan objects objects' p _ grows may = may
@@ -361,7 +359,7 @@ module _ (plan : Plan) (more : List Posed) (objects : List Payload) where
       let within = asked_in plan p.state Asking asking_busy opens.0 asked in
       record { may = (next, opens_more p (Enters f vs) within opens); asked = inr within; same = refl }
   may_come_more p (event.Resume a h) asked enters = let both = entered_more p h a asked enters in record { may = both.0; asked = inr both.1; same = refl }
-  may_come_more p (event.Ask a r own at) asked goes = record { may = goes; asked = inr (asked_in plan p.state Going going_busy goes.0.0 asked); same = refl }
+  may_come_more p (event.Ask a r own at) asked goes = record { may = goes; asked = inr (asked_in plan p.state Going going_busy goes.0 asked); same = refl }
   may_come_more p (event.Got a w) asked (top, (reply, is, gives)) =
       let within = asked_of p reply asked is in
       record { may = (top, (reply, answered_more p reply within is, gives)); asked = inr within; same = ap (with_generators plan p (event.Got a w)) (same_answered p (value_of w) within) }

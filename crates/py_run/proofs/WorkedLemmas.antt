@@ -146,7 +146,7 @@ self_comes =
       (
         (refl, (_, refl, send_is _ _ _ _ generator_body _ _ _ refl refl refl refl)),
         (
-          ((refl, refl), tt),
+          (refl, refl),
           (
             (refl, (Fails ValueError (codes "generator already executing"), (_, refl, send_is _ _ _ _ generator_body _ _ _ refl refl refl refl), self_new)),
             (
@@ -283,11 +283,11 @@ handled_comes =
         (
           (refl, record { body = _; entry = refl; signature = _; signed = refl; kind_is = refl }),
           (
-            ((refl, refl), tt),
+            (refl, refl),
             (
               (refl, (_, refl, send_is _ _ _ _ generator_body _ _ _ refl refl refl refl)),
               (
-                ((refl, refl), tt),
+                (refl, refl),
                 (
                   (refl, (Is (object 7), (_, refl, inr (inr (inl (refl, refl)))), refl)),
                   (

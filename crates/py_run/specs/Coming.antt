@@ -15,7 +15,6 @@ use Rattle.py_objects.specs.Own.{Own, own_events}
 use Rattle.py_answers.specs.Answers.{Raised, Reply, Creates, IsRaise, GivesBody, GivesDrive}
 use Rattle.py_run.specs.Run.{Signature, Plan, Phase, Idle, Asking, Going, Made, Due, State, Activation, start, after, state_after, IsTop, question, forming, depth, handled_among, GoesOn}
 use Rattle.py_run.specs.Generators.{Generator, generators_after}
-use Rattle.py_run.specs.Raises.{raises_of, Tells}
 use Rattle.py_run.specs.declared.drive.Makings.{Makings}
 use Rattle.py_run.specs.Normalized.{NormalizesTo}
 use Rattle.py_run.specs.Calls.{Course, Says, Enters, Begins, Sends, Throws, Setting, ComesTo, IsDue}
@@ -91,7 +90,7 @@ module _ (plan : Plan) (objects : List Payload) where
   MayCome p (event.Drive d) = (p.state.phase ≡ Idle) × (d ≡ suc p.state.done) × (p.state.done < length plan.asked)
   MayCome p (event.Make a f vs) = (a ≡ suc (length p.state.made)) × Opens p (Enters f vs)
   MayCome p (event.Resume a h) = IsEntered p h a
-  MayCome p (event.Ask a r own at) = GoesOn p.state a × Tells objects p.events (raises_of p.events) r
+  MayCome p (event.Ask a r own at) = GoesOn p.state a
   MayCome p (event.Round a at) = GoesOn p.state a
   MayCome p (event.Yield a v at) = GoesOn p.state a
   MayCome p (event.End a e at) = GoesOn p.state a

@@ -1,8 +1,9 @@
 -- what the objects of a run begin with
 pub mod First
--- what an event makes of a run, of its generators, and of what was raised
+-- what an event makes of a run and of its generators
 pub mod Run
 pub mod Generators
+-- what answers raise, and which links come of that
 pub mod Raises
 pub mod Links
 -- what questions come to

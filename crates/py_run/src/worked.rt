@@ -1,16 +1,16 @@
 //! Journals of generators, and of a manager, that were worked by hand, and what the definitions say of them, whatever activations tell.
 
-ghost use Rattle.std.specs.Prelude.{◌≡◌, []};
+ghost use Rattle.std.specs.Prelude.{◌≡◌, [], ◌∷◌};
 ghost use Rattle.py_run.specs.Coming.{nothing, Comes, IsDone, IsRunBy};
 ghost use Rattle.py_run.specs.Past.{past_behind};
-ghost use Rattle.py_run.specs.Worked.{anything, NoneEnters, OnlyEnters, OnlyThrows};
+ghost use Rattle.py_run.specs.Worked.{anything, object, NoneEnters, OnlyEnters, OnlyThrows};
 ghost use Rattle.py_run.specs.WorkedNext.{objects as next_objects, plan as next_plan, entering, stopped, events as next_events, two_objects, naming, giving};
 ghost use Rattle.py_run.specs.WorkedClose.{objects as close_objects, plan as close_plan, closing, closed, events as close_events};
 ghost use Rattle.py_run.specs.WorkedStop.{objects as stop_objects, plan as stop_plan, events_by};
 ghost use Rattle.py_run.specs.WorkedSelf.{objects as self_objects, plan as self_plan, sending, refused as self_refused, events as self_events};
 ghost use Rattle.py_run.specs.WorkedIgnored.{objects as ignored_objects, plan as ignored_plan, ignored, events as ignored_events};
 ghost use Rattle.py_run.specs.WorkedThrow.{objects as throw_objects, plan as throw_plan, throwing, refused as throw_refused, events as throw_events, sending as send_plan, started};
-ghost use Rattle.py_run.specs.WorkedExit.{objects as exit_objects, plan as exit_plan, events as exit_events, told_another, told_none, told_old, enters_again};
+ghost use Rattle.py_run.specs.WorkedExit.{objects as exit_objects, plan as exit_plan, events as exit_events, again, told_another, told_none, enters_again, first_entry, entries_again, Linked, Unlinked};
 ghost use Rattle.py_run.specs.WorkedHandled.{objects as handled_objects, plan as handled_plan, events as handled_events, got_another};
 
 /// A generator yields, stops, and stays closed. What its call gives is a new object, and the first next enters no activation but its own.
@@ -71,13 +71,19 @@ pub fn worked_handled()
     ensures no_other_exception { Comes handled_plan handled_objects nothing got_another → ⊥ }
 {}
 
-/// Two exits behind one raise are told one and the same new traceback, and each calls the exit function of its manager (Python Language Reference,
-/// 8.5).
+/// Two exits behind one raise are told one and the same traceback, which its exception has got by that raise, and each calls the exit function of its
+/// manager (Python Language Reference, 8.5). Where the exit function raises the exception again, this has got two entries more by the next exit.
 pub fn worked_exit()
     ensures is_run { IsRunBy anything exit_plan exit_objects exit_events }
     ensures is_whole { IsDone 1 exit_events }
-    ensures no_other_traceback { Comes exit_plan exit_objects nothing told_another → ⊥ }
-    ensures no_none_as_traceback { Comes exit_plan exit_objects nothing told_none → ⊥ }
-    ensures no_old_traceback { Comes exit_plan exit_objects nothing told_old → ⊥ }
     ensures no_other_callee { Comes exit_plan exit_objects nothing enters_again → ⊥ }
+    // The traceback that both exits are told.
+    ensures linked { Linked exit_events (first_entry ∷ []) }
+    ensures no_other_traceback { Unlinked told_another (first_entry ∷ []) }
+    ensures no_none_as_traceback { Unlinked told_none (first_entry ∷ []) }
+    ensures no_entry_left_out { Unlinked exit_events [] }
+    // That behind another raise.
+    ensures linked_again { Linked (again (object 16)) entries_again }
+    ensures no_old_traceback { Unlinked (again (object 8)) entries_again }
+    ensures no_raise_without_an_entry { Unlinked (again (object 8)) (first_entry ∷ []) }
 {}

@@ -20,6 +20,7 @@ use Rattle.py_run.specs.declared.drive.Drive.{Drive as Question}
 use Rattle.py_run.specs.Run.{Posed}
 use Rattle.py_run.specs.Coming.{IsDone}
 use Rattle.py_run.specs.Drives.{request_of}
+use Rattle.py_run.specs.Links.{lines_in}
 use Rattle.py_vm.specs.declared.fault.VmFault.{VmFault}
 use Rattle.py_vm.specs.declared.fault.VmFault.TheVariants as fault
 use Rattle.py_run.specs.declared.journal.Journal.{Journal}
@@ -31,7 +32,7 @@ use Rattle.py_script.specs.Session.{InRun, IsInRun, IsLineThere, IsLoaded, IsOpe
 use Rattle.py_script.specs.Driving.{GoesOn, HasRunOf, IsDriven, MayBeDriven, NamesKnown}
 use Rattle.py_script.proofs.Declarations.{checked_compiled, entry_read}
 use Rattle.py_meaning.proofs.Entries.{class_known, function_known, known_declared}
-use Rattle.py_script.proofs.Traced.{contexts_traced}
+use Rattle.py_script.proofs.Traced.{links_traced}
 use Rattle.py_script.proofs.Driven.{IsFinished, IsUnderWay, driven_ready, driven_run, is_run_of, loaded_ready, run_grows, same_codes, same_done, same_events_of}
 
 -- a result whose error is this one
@@ -97,9 +98,9 @@ unfolding is_run_of
 has_run_of decls drives s (asked, r) =
     let run = is_run_of decls drives s.vm (asked, r) in
     let compiled = checked_compiled (codes_in decls) s.vm.checked r.checked in
-    let contexts = contexts_traced (codes_in decls) asked s.vm.globals s.vm.objects (plain_codes s.vm.checked) s.vm.changes s.vm.events compiled run.run.comes r.links.contexts in
+    let come = links_traced (codes_in decls) asked s.vm.globals s.vm.objects (plain_codes s.vm.checked) (lines_in (plain_codes s.vm.checked)) s.vm.changes s.vm.events compiled run.run.comes r.links.come in
     record {
-      run = record { run = run; links = record { contexts = contexts; alone = r.links.alone } };
+      run = record { run = run; links = record { come = come; alone = r.links.alone } };
       codes = record { compiled = compiled; globals = s.vm.globals; are_globals = r.are_globals; tells = r.tells; links = r.links };
     }
 

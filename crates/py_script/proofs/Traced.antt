@@ -19,9 +19,9 @@ use Rattle.py_tree.proofs.Carry.{traces_carry}
 use Rattle.py_grammar.specs.Grammar.{Coded, OfBody, OfRaw}
 use Rattle.py_run.specs.Run.{Plan, Posed, Activation, start}
 use Rattle.py_run.specs.Coming.{nothing, Comes, EachTells}
-use Rattle.py_run.specs.Links.{ContextsCome}
+use Rattle.py_run.specs.Links.{Lines, LinksCome}
 use Rattle.py_vm.specs.RowsOf.{RowsOf, RowsUnder}
-use Rattle.py_run.proofs.AddedLinks.{contexts_otherwise}
+use Rattle.py_run.proofs.AddedLinks.{links_otherwise}
 use Rattle.py_run.proofs.BoundLemmas.{IsBound, comes_bound}
 use Rattle.py_run.proofs.RunLemmas.{comes_front}
 use Rattle.py_meaning.specs.Whole.{signature_of, plan_of, Traces, TracesUnder, thrown_in}
@@ -71,13 +71,13 @@ tells_traces coded asked globals objects codes events compiled comes tells i a m
 told_on : (ts more : List Own) → HasTold ts → HasTold (ts ++ more)
 told_on ts more told = record { front = told.front; behind = told.behind ++ more; is = ap (λ (l : List Own). l ++ more) told.is }
 
--- so the contexts that come by their rows come by their codes
-pub contexts_traced : (coded : List Coded) (asked : List Posed) (globals : Obj) (objects : List Payload) (codes : Codes) (changes : List Change) (events : List Event) → AreCompiled coded codes
-    → Comes (plan_of coded asked) objects nothing events → ContextsCome (λ throws. RowsUnder throws codes globals objects) objects changes [] start events
-    → ContextsCome (λ throws. TracesUnder throws coded globals objects) objects changes [] start events
-contexts_traced coded asked globals objects codes changes events compiled comes come =
+-- so the links that come by their rows come by their codes
+pub links_traced : (coded : List Coded) (asked : List Posed) (globals : Obj) (objects : List Payload) (codes : Codes) (lines : Lines) (changes : List Change) (events : List Event) → AreCompiled coded codes
+    → Comes (plan_of coded asked) objects nothing events → LinksCome (λ throws. RowsUnder throws codes globals objects) lines objects changes [] start events
+    → LinksCome (λ throws. TracesUnder throws coded globals objects) lines objects changes [] start events
+links_traced coded asked globals objects codes lines changes events compiled comes come =
     let plan : Plan = plan_of coded asked in
-    contexts_otherwise (λ throws. RowsUnder throws codes globals objects) (λ throws. TracesUnder throws coded globals objects) objects changes [] events
+    links_otherwise (λ throws. RowsUnder throws codes globals objects) (λ throws. TracesUnder throws coded globals objects) lines objects changes [] events
     (λ front back is i x how throws made told.
     let first : Comes plan objects nothing front = comes_front plan objects nothing front back (subst (Comes plan objects nothing) is comes) in
     traced throws coded globals objects codes x _ compiled (comes_bound plan objects front first i x made)

@@ -15,7 +15,7 @@ use Rattle.py_objects.specs.Objects.{number_if, got_numbers, result_numbers, All
 use Rattle.py_objects.specs.Growth.{Grows, GrowsPlainly, IsGrown}
 use Rattle.py_objects.specs.Own.{Gets, whose}
 use Rattle.py_objects.specs.Edits.{Kept}
-use Rattle.py_objects.proofs.GrowthLemmas.{below_more, grows_plainly_refl, length_grown, payload_grown}
+use Rattle.py_objects.proofs.GrowthLemmas.{below_more, grows_plainly_refl, length_grown}
 use Rattle.py_objects.proofs.GrownLemmas.{objects_grow, grown_trans, grown_longer}
 use Rattle.py_stack.specs.Slots.{Slots, top_of}
 use Rattle.py_rows.specs.declared.expect.Expect.{Expect}
@@ -28,8 +28,8 @@ use Rattle.py_frame.specs.Frames.{handed}
 use Rattle.py_frame.specs.Steps.{Expects, got_of, taken}
 use Rattle.py_answers.specs.Answers.{Reply, GivesBody, GivesDrive}
 use Rattle.py_run.specs.declared.drive.Drive.{Drive}
-use Rattle.py_run.specs.Run.{Posed, start, state_after, top_asks, open_in, question}
-use Rattle.py_run.specs.Raises.{raised_by, raises_of, with_raise}
+use Rattle.py_run.specs.Run.{Posed, start, state_after, top_asks, question}
+use Rattle.py_run.specs.Raises.{raised_by}
 use Rattle.py_run.specs.Generators.{answered, returned_by, value_of}
 use Rattle.py_run.specs.Coming.{IsAnswered}
 use Rattle.py_vm.specs.declared.stage.Running.{Running}
@@ -42,15 +42,16 @@ use Rattle.py_vm.specs.declared.machinery.Core.{Core}
 use Rattle.py_vm.specs.Courses.{GivesReply, IsReplied}
 use Rattle.py_vm.specs.Generators.{modes_of}
 use Rattle.py_vm.specs.Machine.{plan_of}
-use Rattle.py_vm.specs.Raises.{Raises}
+use Rattle.py_vm.specs.declared.raising.Raising.{Raising}
+use Rattle.py_vm.specs.Raising.{raising_in}
 use Rattle.py_vm.specs.Stands.{AreApart, IsApart, IsHalted, IsInside, IsOutside, Keeps, Plays, asking, caller_acts, caller_frames, first_slot, slots_in, stacked}
-use Rattle.py_vm.specs.Turns.{past_at, got_by, heard_by, result_by, result_of, IsNoted, IsNotedBy, KeepsValue, Replies, Turns, raising_in}
+use Rattle.py_vm.specs.Turns.{past_at, got_by, heard_by, result_by, result_of, IsAnswerTo, KeepsValue, Replies, Turns}
 use Rattle.py_vm.proofs.PlaysLemmas.{plays_hears, setting_in}
 use Rattle.py_vm.proofs.JournalLemmas.{next_number, top_is}
 use Rattle.py_vm.proofs.ChainLemmas.{AreHalted, AreOthers, acts_still, each_still, inside_halted, inside_on, zero_outside}
 use Rattle.py_vm.proofs.ChangesLemmas.{IsChange}
-use Rattle.py_vm.proofs.NextLemmas.{drive_told, next_law, played_told, slots_heard, still_raised, IsNext}
-use Rattle.py_vm.proofs.RaisedLemmas.{raised_noted}
+use Rattle.py_vm.proofs.NextLemmas.{drive_told, next_law, played_told, slots_heard, IsNext}
+use Rattle.py_vm.proofs.NotedLemmas.{answers_on, noted_grown}
 use Rattle.py_vm.proofs.QuestionsLemmas.{Answers}
 use Rattle.py_vm.proofs.GoingLemmas.{goes}
 
@@ -101,12 +102,12 @@ raised_exception objects q (got.Stop v) is = tt
 raised_exception objects q (got.Raise e) is = is
 
 -- it gets the answer to what it asked, which is as it is wanted and names objects
-pub got_law : (m : Core) (d : Drive) (s : Stage) (h : Halted) (hs : List Halted) (store : Kept) (list : List KeptGenerator) (raises : Raises) (raising : Option PyBaseExceptionRef) (w : Answer) (Other : ℕ → Type 0) → Keeps m d s → IsGrown m.world.store store → (waits : Waiting m d h hs)
+pub got_law : (m : Core) (d : Drive) (s : Stage) (h : Halted) (hs : List Halted) (store : Kept) (list : List KeptGenerator) (raising : Option Raising) (w : Answer) (Other : ℕ → Type 0) → Keeps m d s → IsGrown m.world.store store → (waits : Waiting m d h hs)
     → IsAnswer store.made (wanted waits.halted.question.request) (got_of w) → AllBelow (length store.made) (got_numbers (got_of w))
     → ((asked : List Posed) → IsNext m d asked → (reply : Reply) × IsAnswered (plan_of m.world.codes asked) store.made (past_at m) reply × GivesBody store.made m.events reply (got_of w))
     → IsChange m Other store (event.Got h.running.act (got_of w)) list → AreOthers Other hs → Other h.running.act → IsFold m d (λ v. v ≡ value_of (got_of w)) list
-    → IsNotedBy m.events h w m.raises raises → Turns m d s None (got_by (record m { world = record m.world { store = store; generators = list }; callers = hs; raises = raises; raising = raising }) h.running w)
-got_law m d s h hs store list raises raising w Other k grown waits as_wanted below replied change others other fold (act, asked, own, at, entry, noted) =
+    → Turns m d s None (got_by (record m { world = record m.world { store = store; generators = list }; callers = hs; raising = raising }) h.running w)
+got_law m d s h hs store list raising w Other k grown waits as_wanted below replied change others other fold =
     let r : Running = h.running in
     let e : Event = event.Got r.act (got_of w) in
     let old = waits.halted.plays in
@@ -127,10 +128,7 @@ got_law m d s h hs store list raises raising w Other k grown waits as_wanted bel
     let low = subst (λ (x : Option PyBaseExceptionRef). AllBelow (length store.made) (number_if x)) (sym shares) (below_more _ _ _ (length_grown m.world.store.made store.made grows) old.running.below.in_slot) in
     let plays : Plays m.world.codes m.globals store.made (m.events ++ e ∷ []) now first =
     plays_hears m.world.codes m.globals m.world.store.made store.made m.events e grows r refl first slot first (input.Answer w) (Gets (length m.events) (got_of w)) refl refl below (record { below = low; left = inr shares }) old expects run in
-    let both : Some (event.Ask act asked own at) ≡ Some (event.Ask q.act q.request q.own q.at) = sym entry ∙ q.entry in
-    let same : asked ≡ q.request = cc both in
-    let raise : Option Obj = raised_by (Some q.request) (got_of w) in
-    next_law m d s e None (got_by (record m { world = record m.world { store = store; generators = list }; callers = hs; raises = raises; raising = raising }) r w) k (record {
+    next_law m d s e None (got_by (record m { world = record m.world { store = store; generators = list }; callers = hs; raising = raising }) r w) k (record {
       grown = grown_longer m.world.store store grown;
       done = k.follows.done;
       phase = refl;
@@ -142,8 +140,6 @@ got_law m d s h hs store list raises raising w Other k grown waits as_wanted bel
       apart = waits.apart;
       frames = waits.frames;
       slots = slots_heard r.kind (slots_in hs) m.slots r.frame.state.slot r.frame.state.wants (inr shares) (waits.slots ∙ ap (λ x. stacked r.kind x (slots_in hs)) (sym shares));
-      raised = raised_noted m.world.store.made store.made m.events e m.raises grows k.raised raises h raise (subst (λ y. IsNoted h (raised_by (Some y) (got_of w)) m.raises raises) same noted)
-          (ap (λ l. with_raise (raised_by (open_in None l) (got_of w)) (raises_of m.events)) stack) (raised_exception store.made q.request (got_of w) as_wanted) (old.body.code, payload_grown m.world.store.made store.made _ _ grows old.entry);
       at_stage = (
         record { plays = plays; moves = subst (λ (x : Expect). IsMoving (taken (input.Answer w) x)) (sym waiting) tt },
         record {
@@ -176,7 +172,6 @@ result_law m d s store list w Other k none alone grown below replied change fold
       apart = k.nested.apart;
       frames = alone.frames ∙ sym (ap caller_frames none);
       slots = alone.slots ∙ sym (ap slots_in none);
-      raised = still_raised m d s store e k grown refl;
       at_stage = none;
     }) (refl, refl, refl)
     (λ asked is. let (reply, answered, gives) = replied asked is in (next_number _ _ k.follows.done, alone.stack, (reply, inl answered, gives)))
@@ -245,10 +240,11 @@ replies_law m d s [] store list reply w a m' Other k grown alone fits answers re
     let same : m' ≡ result_by (record m { world = record m.world { store = store; generators = list } }) (result_of w) =
     is ∙ ap (λ hs. result_by (record m { world = record m.world { store = store; generators = list }; callers = hs }) (result_of w)) (sym callers) in
     subst (λ x. Turns m d s x m') (sym is_answer) (subst (Turns m d s (Some (result_of w))) (sym same) turned)
-replies_law m d s (h ∷ hs) store list reply w a m' Other k grown waits fits answers replied change others fold none (is_answer, (store', answer, (more, keeps, gives), (raises, noted, is))) =
+replies_law m d s (h ∷ hs) store list reply w a m' Other k grown waits fits answers replied change others fold none (is_answer, (mid, answer, answers_to, (store', raising, noted, is))) =
+    let (more, keeps, gives) : IsAnswerTo store store' w answer = answers_on store mid store' w answer answers_to (noted_grown m.world.codes mid h.running (raising_in m.events h answer) store' m.raising raising noted) in
     let all : IsGrown m.world.store store' = grown_trans m.world.store store store' grown more in
     let given : GivesReply m.world.store.made store'.made reply answer = gives m.world.store.made reply (objects_grow m.world.store store grown) (grown.objects.fit k.stored.readable.fit) replied in
-    let turned = got_law m d s h hs store' list raises (raising_in m.events h answer) answer Other k all waits (fits store' answer more given) given.below
+    let turned = got_law m d s h hs store' list raising answer Other k all waits (fits store' answer more given) given.below
     (λ asked next. (reply, answers store'.made more.objects asked next, given.gives m.events k.told.named)) (change store' (event.Got h.running.act (got_of answer)) all refl more.objects) others.1 others.0
-    (λ asked v next same. fold asked v next (subst (MayBe w) (sym same) (got_may w answer keeps))) noted in
+    (λ asked v next same. fold asked v next (subst (MayBe w) (sym same) (got_may w answer keeps))) in
     subst (λ x. Turns m d s x m') (sym is_answer) (subst (Turns m d s None) (sym is) turned)

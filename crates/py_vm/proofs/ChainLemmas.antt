@@ -103,7 +103,7 @@ module _ (m : Core) where
     -- an activation that waits still does, as an event of another one comes
     abbrev pub halted_still : (h : Halted) (slot : Option PyBaseExceptionRef) → eqb h.running.act (whose e) ≡ false → Waits h slot → IsHalted m.world.codes m.globals objects (m.events ++ e ∷ []) h slot
     halted_still h slot other x =
-        record { plays = plays_still m.world.codes m.globals m.world.store.made objects m.events e grows h.running slot other x.plays; question = question_still h.place x.question; waits = x.waits; handles = x.handles }
+        record { plays = plays_still m.world.codes m.globals m.world.store.made objects m.events e grows h.running slot other x.plays; question = question_still h.place x.question; waits = x.waits; handles = x.handles; told_at = x.told_at }
 
     module _ (Other : ℕ → Type 0) (list list' : List KeptGenerator) (carried : IsCarried Other list list') (d : Drive) where
       -- so does one that was entered inside of those, as an event of none of them comes

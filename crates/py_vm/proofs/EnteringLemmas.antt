@@ -57,7 +57,7 @@ use Rattle.py_vm.proofs.PlaysLemmas.{plays_hears, setting_in}
 use Rattle.py_vm.proofs.KeptLemmas.{changed_twice, kept_changed, modes_entered, modes_none_run, no_ones_outside, other_way, outside_at, outside_itself, single_changed}
 use Rattle.py_vm.proofs.ChainLemmas.{Anyone, AreHalted, IsCarried, acts_still, all_others, carried_same, each_still, first_holds, halted_still, inside_halted, inside_on, slots_low, slots_shape}
 use Rattle.py_vm.proofs.ChangesLemmas.{IsStill, each_at, entered_carried, entered_each}
-use Rattle.py_vm.proofs.NextLemmas.{next_law, played_told, slots_heard, still_raised}
+use Rattle.py_vm.proofs.NextLemmas.{next_law, played_told, slots_heard}
 use Rattle.py_vm.proofs.QuestionsLemmas.{IsOpen, resumes_there}
 use Rattle.py_vm.proofs.AskedLemmas.{AskedBy}
 use Rattle.py_vm.proofs.TurnsLemmas.{apart_of, frames_of, slots_of, stack_of, IsTheirs}
@@ -108,7 +108,6 @@ entered_law m d r f plain k =
       apart = k.nested.apart;
       frames = ap (λ l. l ++ r.frame.entry ∷ []) k.nested.frames;
       slots = slots_heard r.kind (slots_in m.callers) m.slots r.frame.state.slot r.frame.state.wants (inl starts) (plain_slots r.kind plain);
-      raised = still_raised m d (stage.Made r f) m.world.store e k (grown_refl m.world.store) refl;
       at_stage = (
         subst (IsGoing m.world.codes m.globals objects (m.events ++ e ∷ []) now) shares (record { plays = plays; moves = subst (λ (x : Expect). IsMoving (taken input.Start x)) (sym starts) tt }),
         record {
@@ -312,7 +311,6 @@ resumed_law m d s hs q store list x h k opened asked_by theirs entering =
       apart = apart_of m d hs asked_by;
       frames = ap (λ l. l ++ r.frame.entry ∷ []) (frames_of m d hs asked_by);
       slots = slots_heard r.kind (slots_in hs) (x.slot ∷ m.slots) r.frame.state.slot r.frame.state.wants ready.left (own_slots r.kind ready.kind x.slot m.slots (slots_in hs) ready.kind_is (slots_of m d hs asked_by));
-      raised = still_raised m d s store e k grown refl;
       at_stage = (
         subst (IsGoing m.world.codes m.globals store.made (m.events ++ e ∷ []) now) (no_first r.kind ready.kind hs ready.kind_is) (record { plays = plays; moves = ready.moves }),
         record {

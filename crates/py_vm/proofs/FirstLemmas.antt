@@ -16,7 +16,6 @@ use Rattle.py_exceptions.proofs.ClassesLemmas.{value_declared}
 use Rattle.py_objects.specs.Singletons.{singletons}
 use Rattle.py_run.specs.First.{first_objects, first_globals}
 use Rattle.py_run.proofs.FirstLemmas.{each_single, each_first, singles_plain, first_fit, first_have}
-use Rattle.py_vm.specs.Raises.{AreRaised}
 use Rattle.py_vm.specs.Machine.{new_machine}
 use Rattle.py_vm.specs.Beginning.{Begins, IsFresh}
 use Rattle.py_vm.specs.Holds.{IsCoded}
@@ -96,8 +95,8 @@ seen_first m names objects unchanged codes globals no_events no_generators no_fr
 
 -- a machine that has done nothing is between drives
 pub start_idle : (m : Core) → m.events ≡ [] → Begins m.world.store m.world.zoo m.globals → m.world.codes.codes ≡ [] → m.world.declarations ≡ declarations_of first_classes → m.done ≡ 0 → m.made ≡ 0
-    → m.callers ≡ [] → m.world.generators ≡ [] → m.frames ≡ [] → m.slots ≡ None ∷ [] → m.raises ≡ [] → m.stage ≡ stage.Idle → IsIdle m
-start_idle m no_events begins no_codes names none_done none_made no_callers no_generators no_frames empty no_raises idle =
+    → m.callers ≡ [] → m.world.generators ≡ [] → m.frames ≡ [] → m.slots ≡ None ∷ [] → m.stage ≡ stage.Idle → IsIdle m
+start_idle m no_events begins no_codes names none_done none_made no_callers no_generators no_frames empty idle =
     let fit : AllFit m.world.store.made = subst AllFit (sym begins.objects) first_fit in
     let nothing : state_after start m.events ≡ start = ap (state_after start) no_events in
     record {
@@ -141,7 +140,6 @@ start_idle m no_events begins no_codes names none_done none_made no_callers no_g
           frames = no_frames ∙ ap (λ hs. frames_at hs stage.Idle) (sym no_callers) ∙ ap (frames_at m.callers) (sym idle);
           slots = empty ∙ ap (λ hs. slots_at hs stage.Idle) (sym no_callers) ∙ ap (slots_at m.callers) (sym idle);
         };
-        raised = subst (AreRaised m.world.store.made m.events) (sym no_raises) (subst (λ es. AreRaised m.world.store.made es []) (sym no_events) (record { are = λ e. refl; there = λ e x here. absurd (cc here) }));
         at_stage = subst (AtStage m.world.codes m.globals m.world.store.made m.events m.world.generators d m.made m.callers) (sym idle) no_callers;
       };
       idle = idle;

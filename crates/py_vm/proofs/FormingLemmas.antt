@@ -43,12 +43,12 @@ use Rattle.py_vm.specs.Stands.{IsIdle, Keeps, acts_of, caller_acts, frames_at, p
 use Rattle.py_vm.specs.Turns.{begun_by, result_by}
 use Rattle.py_vm.proofs.ChainLemmas.{each_still, zero_outside}
 use Rattle.py_vm.proofs.JournalLemmas.{marked_on, named_still, next_number}
-use Rattle.py_vm.proofs.NextLemmas.{done_counted, drive_told, still_raised}
+use Rattle.py_vm.proofs.NextLemmas.{done_counted, drive_told}
 use Rattle.py_vm.proofs.RowsOfLemmas.{tells_still}
 use Rattle.py_vm.proofs.StandsLemmas.{grown_idle, idle_again, idle_callers, kept_idle, restored_idle, marked_append}
 use Rattle.py_vm.proofs.TurnsLemmas.{begun_law}
 use Rattle.py_objects.specs.FrameEntries.{frames_in}
-use Rattle.py_vm.specs.Contexts.{IsMarked}
+use Rattle.py_vm.specs.Links.{IsMarked}
 use Rattle.py_objects.specs.Originals.{AreMarked, ChangesBelow}
 use Rattle.py_objects.proofs.BelowLemmas.{ChangesBelow-more, ChangesBelow-append}
 use Rattle.py_objects.proofs.OriginalsLemmas.{AreMarked-later}
@@ -82,7 +82,6 @@ module _ (m : Core) (idle : IsIdle m) where
         told = k.told;
         kept = k.kept;
         nested = record { apart = k.nested.apart; frames = k.nested.frames ∙ ap (frames_at m.callers) idle.idle; slots = k.nested.slots ∙ ap (slots_at m.callers) idle.idle };
-        raised = k.raised;
         at_stage = none;
       }
 
@@ -120,7 +119,6 @@ result_keeps m d w k below =
       told = drive_told m stage.Asking m.world.store e d k (grown_refl m.world.store) refl below refl;
       kept = record { each = each_still m m.world.store.made e (plainly_grows m.world.store.made m.world.store.made (grows_plainly_refl m.world.store.made)) m.made m.made m.world.generators (omega arith) (zero_outside m m.made m.world.generators k.kept.each) k.kept.each; single = k.kept.single };
       nested = record { apart = k.nested.apart; frames = k.nested.frames; slots = k.nested.slots };
-      raised = still_raised m d stage.Asking m.world.store e k (grown_refl m.world.store) refl;
       at_stage = none;
     }
 

@@ -5,13 +5,14 @@ use Rattle.py_objects.specs.declared.refs.PyBaseExceptionRef.{PyBaseExceptionRef
 use Rattle.py_objects.specs.declared.event.Event.{Event}
 use Rattle.py_objects.specs.declared.event.Event.TheVariants as event
 use Rattle.py_run.specs.declared.drive.Drive.{Drive}
-use Rattle.py_run.specs.Run.{Act, Activation, start, state_after}
+use Rattle.py_run.specs.Links.{IsFrameOf}
+use Rattle.py_run.specs.Run.{Activation, start, state_after}
 use Rattle.py_vm.specs.declared.stage.Running.{Running}
 use Rattle.py_vm.specs.declared.stage.Halted.{Halted}
 use Rattle.py_vm.specs.declared.stage.Stage.{Stage}
 use Rattle.py_vm.specs.declared.stage.Stage.TheVariants as stage
 use Rattle.py_vm.specs.declared.machinery.Core.{Core}
-use Rattle.py_vm.specs.Machine.{AreFramesOf, IsFrameOf, ListsFrames}
+use Rattle.py_vm.specs.Machine.{AreFramesOf, ListsFrames}
 use Rattle.py_vm.specs.Stands.{AtStage, Keeps, Plays, acts_of, asking, caller_acts, caller_frames, frames_at, seen}
 use Rattle.py_vm.proofs.ChainLemmas.{AreHalted, inside_halted}
 
@@ -26,9 +27,9 @@ module _ (m : Core) where
   made = (state_after start m.events).made
 
   -- the frame of one that plays is that of its activation
-  frame_of : (r : Running) (slot : Option PyBaseExceptionRef) (a : Act) → a.number ≡ r.act
-      → Plays m.world.codes m.globals m.world.store.made m.events r slot → IsFrameOf m.world.store.made made a r.frame.entry
-  frame_of r slot a same p = record {
+  frame_of : (r : Running) (slot : Option PyBaseExceptionRef) (act : ℕ) → act ≡ r.act
+      → Plays m.world.codes m.globals m.world.store.made m.events r slot → IsFrameOf m.world.store.made made act r.frame.entry
+  frame_of r slot act same p = record {
     at = p.at;
     numbered = same ∙ p.numbered;
     activation = p.activation;

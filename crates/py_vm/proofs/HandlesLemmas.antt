@@ -4,6 +4,7 @@ use Rattle.std.specs.Prelude.{◌==◌}
 use Rattle.std.proofs.Math.Bool.{or-true}
 use Rattle.std.proofs.lemmas.Bool.Decides.{nat_tests}
 use Rattle.py_objects.specs.declared.refs.PyBaseExceptionRef.{PyBaseExceptionRef}
+use Rattle.py_objects.specs.declared.edit.Change.{Change}
 use Rattle.py_objects.specs.declared.payload.Payload.{Payload}
 use Rattle.py_objects.specs.declared.event.ResumeHow.TheVariants as how
 use Rattle.py_objects.specs.declared.event.Event.{Event}
@@ -123,7 +124,8 @@ module _ (codes : Checked) (globals : Obj) (objects : List Payload) (events : Li
         )
 
     -- what is in the slot is handled where the exception enters the activation
-    pub handles_then : (now : List Payload) → HandlesThen (λ throws. RowsUnder throws (plain_codes codes) globals objects') (record { before = events; state = state_after start events; now = now }) r.act (how.Throw e) slot
-    handles_then now =
-        subst (λ a. HandlesThen (λ throws. RowsUnder throws (plain_codes codes) globals objects') (record { before = events; state = state_after start events; now = now }) a (how.Throw e) slot) (sym p.numbered)
+    pub handles_then : (now : List Payload) (changed : List Change)
+        → HandlesThen (λ throws. RowsUnder throws (plain_codes codes) globals objects') (record { before = events; state = state_after start events; now = now; changed = changed }) r.act (how.Throw e) slot
+    handles_then now changed =
+        subst (λ a. HandlesThen (λ throws. RowsUnder throws (plain_codes codes) globals objects') (record { before = events; state = state_after start events; now = now; changed = changed }) a (how.Throw e) slot) (sym p.numbered)
         (p.activation, p.is_made, subst (λ a. RowsUnder (thrown_under (length events) slot) (plain_codes codes) globals objects' p.activation.function p.activation.args (own_events a events ++ Resumes (length events) (how.Throw e) ∷ [])) p.numbered throws_under_own)

@@ -45,11 +45,12 @@ use Rattle.py_vm.specs.declared.stage.Halted.{Halted}
 use Rattle.py_vm.specs.declared.stage.Suspended.{Suspended}
 use Rattle.py_vm.specs.declared.stage.Stage.{Stage}
 use Rattle.py_vm.specs.declared.machinery.Core.{Core}
-use Rattle.py_vm.specs.Codes.{Checked}
+use Rattle.py_vm.specs.declared.world.World.{World}
+use Rattle.py_vm.specs.Raising.{NotedOne}
 use Rattle.py_vm.specs.Courses.{IsReplied, RepliesRaise, IsPassedBy}
 use Rattle.py_vm.specs.Generators.{changed_at, generator_asked, kept_at, kept_by, kept_in, settled, IsRunningNow}
 use Rattle.py_vm.specs.Stands.{IsEnding}
-use Rattle.py_vm.specs.Turns.{got_by, passed, AreReady, Finished, FirstAsks, IsAnswerTo, IsSettled, NotedOne, Questioned, Replies, SettledOne, Started, end_numbers}
+use Rattle.py_vm.specs.Turns.{got_by, passed, AreReady, Finished, FirstAsks, IsAnswerTo, IsSettled, Questioned, Replies, SettledOne, Started, end_numbers}
 use Rattle.py_vm.proofs.CallsLemmas.{raise_given}
 
 -- ---- how an activation was left
@@ -208,9 +209,9 @@ module _ (m : Core) (g : Obj) (s : Suspended) (how : CoroEnd) (runs : IsRunningN
 -- ---- whose answer it is
 
 -- there is one
-pub some_question : (codes : Checked) (events : List Event) (d : Drive) (hs : List Halted) → FirstAsks codes events hs → (q : Request) × Questioned events d hs q
-some_question codes events d [] asks = (request_of d, refl)
-some_question codes events d (h ∷ hs) ((act, q, own, at, entry), note) = (q, (act, own, at, entry))
+pub some_question : (w : World) (events : List Event) (d : Drive) (hs : List Halted) → FirstAsks w events hs → (q : Request) × Questioned events d hs q
+some_question w events d [] asks = (request_of d, refl)
+some_question w events d (h ∷ hs) ((act, q, own, at, entry), traceable) = (q, (act, own, at, entry))
 
 -- ---- who asked gets the answer
 
@@ -231,8 +232,8 @@ module _ (m : Core) (w : MadeReply) where
   -- the innermost caller gets it
   pub caller_replied : (hs rest : List Halted) (h : Halted) (store : Kept) (a : Answer) (n m' : Core) → hs ≡ h ∷ rest → IsAnswerTo m.world.store store w a → NotedOne (record m { world = record m.world { store = store }; callers = rest }) h a n
       → m' ≡ got_by n h.running a → Replies m w hs None m'
-  caller_replied hs rest h store a n m' is answers (raises, noted, same) gets =
-      subst (λ l. Replies m w l None m') (sym is) (refl, (store, a, answers, (raises, noted, gets ∙ ap (λ (y : Core). got_by y h.running a) same)))
+  caller_replied hs rest h store a n m' is answers (after, raising, noted, same) gets =
+      subst (λ l. Replies m w l None m') (sym is) (refl, (store, a, answers, (after, raising, noted, gets ∙ ap (λ (y : Core). got_by y h.running a) same)))
 
 -- ---- an activation that was made
 

@@ -21,7 +21,6 @@ use Rattle.py_run.specs.Run.{Act, Posed, State, start, state_after, entered_in, 
 use Rattle.py_run.specs.Calls.{Setting}
 use Rattle.py_run.specs.Generators.{Generator, generators_after}
 use Rattle.py_run.specs.Coming.{Past, setting, MayCome}
-use Rattle.py_run.specs.Raises.{raises_after, raises_of}
 use Rattle.py_run.proofs.OwnLemmas.{state_after-append, done_below, made_below}
 use Rattle.py_vm.specs.declared.stage.Running.{Running}
 use Rattle.py_vm.specs.declared.stage.Halted.{Halted}
@@ -31,12 +30,10 @@ use Rattle.py_vm.specs.declared.machinery.Core.{Core}
 use Rattle.py_vm.specs.Codes.{signatures_of}
 use Rattle.py_vm.specs.Generators.{modes_of}
 use Rattle.py_vm.specs.Machine.{posed, plan_of}
-use Rattle.py_vm.specs.Raises.{AreRaised}
 use Rattle.py_vm.specs.Stands.{AreApart, AreKept, AtStage, IsTold, Keeps, Plays, acts_of, caller_acts, caller_frames, frames_at, phase_of, slots_at, stacked}
 use Rattle.py_vm.specs.Turns.{setting_at, past_at, AfterTurn, Turns}
 use Rattle.py_vm.proofs.JournalLemmas.{acted_on, low_at, made_same, marked_on, nobody_on, runnable_on, stored_on, told_still}
 use Rattle.py_vm.proofs.PlaysLemmas.{plays_rows}
-use Rattle.py_vm.proofs.RaisedLemmas.{raised_still}
 
 -- as many frames are listed as activations run
 one_more : (acts : List Act) (frames : List FrameRef) (entry : FrameRef) → length acts ≡ length frames → suc (length acts) ≡ length (frames ++ entry ∷ [])
@@ -75,7 +72,7 @@ setting_is m d s asked k handled is =
 -- this machine with one more event, and otherwise with what a turn may change as that one has it
 abbrev pub next_to : Core → Event → Core → Core
 next_to m e n =
-    record m { world = record m.world { store = n.world.store; generators = n.world.generators }; events = m.events ++ e ∷ []; done = n.done; made = n.made; frames = n.frames; callers = n.callers; slots = n.slots; raises = n.raises; raising = n.raising; stage = n.stage }
+    record m { world = record m.world { store = n.world.store; generators = n.world.generators }; events = m.events ++ e ∷ []; done = n.done; made = n.made; frames = n.frames; callers = n.callers; slots = n.slots; raising = n.raising; stage = n.stage }
 
 -- where a run is behind the event, what the journal keeps, and what runs
 pub record Next (m : Core) (d : Drive) (e : Event) (n : Core) : Type 0 where
@@ -90,13 +87,7 @@ pub record Next (m : Core) (d : Drive) (e : Event) (n : Core) : Type 0 where
   pub apart : AreApart n.callers
   pub frames : n.frames ≡ frames_at n.callers n.stage
   pub slots : n.slots ≡ slots_at n.callers n.stage
-  pub raised : AreRaised n.world.store.made (m.events ++ e ∷ []) n.raises
   pub at_stage : AtStage m.world.codes m.globals n.world.store.made (m.events ++ e ∷ []) n.world.generators d n.made n.callers n.stage
-
--- what was raised is the same behind an event that raises nothing, and tells no exit
-pub still_raised : (m : Core) (d : Drive) (s : Stage) (store : Kept) (e : Event) → Keeps m d s → IsGrown m.world.store store → raises_after (state_after start m.events) (raises_of m.events) e ≡ raises_of m.events
-    → AreRaised store.made (m.events ++ e ∷ []) m.raises
-still_raised m d s store e k grown same = raised_still m.world.store.made store.made m.events e m.raises (objects_grow m.world.store store grown) k.raised same
 
 -- the machine turns
 pub next_law : (m : Core) (d : Drive) (s : Stage) (e : Event) (a : Option DriveAnswer) (n : Core) → Keeps m d s → Next m d e n → AfterTurn m (next_to m e n) e a
@@ -121,7 +112,6 @@ next_law m d s e a n k x ends comes =
           frames = x.frames;
           slots = x.slots;
         };
-        raised = x.raised;
         at_stage = x.at_stage;
       };
       added = e;

@@ -9,23 +9,22 @@ use Rattle.py_objects.specs.declared.payload.Payload.TheVariants as payload
 use Rattle.py_objects.specs.declared.payload.CoroKind.{CoroKind}
 use Rattle.py_objects.specs.declared.scope.Scope.{Scope}
 use Rattle.py_objects.specs.declared.request.Request.{Request}
-use Rattle.py_objects.specs.declared.request.Request.TheVariants as request
 use Rattle.py_objects.specs.declared.event.Event.{Event}
 use Rattle.py_objects.specs.declared.event.Event.TheVariants as event
 use Rattle.py_objects.specs.declared.event.DriveAnswer.{DriveAnswer}
 use Rattle.py_objects.specs.declared.event.ResumeHow.{ResumeHow}
 use Rattle.py_objects.specs.declared.event.ResumeHow.TheVariants as how
-use Rattle.py_objects.specs.Objects.{Obj, IsFunction}
+use Rattle.py_objects.specs.Objects.{Obj, AllFit, IsFunction}
 use Rattle.py_objects.specs.Edits.{Kept}
 use Rattle.py_objects.specs.Growth.{with_object, IsGrown, IsLonger}
 use Rattle.py_objects.specs.Scopes.{scope_of}
 use Rattle.py_objects.proofs.GrownLemmas.{added_grown, objects_grow, frame_longer, grown_longer, grown_refl, longer_refl, longer_trans}
 use Rattle.py_exceptions.specs.Classes.{HaveClasses}
 use Rattle.py_exceptions.proofs.ClassesLemmas.{classes_grown}
-use Rattle.py_stack.specs.Slots.{Slots}
+use Rattle.py_stack.specs.Slots.{Slots, topmost}
 use Rattle.py_check.specs.declared.annotated.Annotated.{Annotated}
 use Rattle.py_rows.specs.Below.{TellsBelow}
-use Rattle.py_rows.specs.Laws.{AllMayTell}
+use Rattle.py_rows.specs.Laws.{AllMayTell, RaisedThere}
 use Rattle.py_rows.specs.RunOfRows.{filled}
 use Rattle.py_rows.specs.Signature.{kind_of}
 use Rattle.py_frame.specs.declared.input.Answer.{Answer}
@@ -41,7 +40,6 @@ use Rattle.py_answers.specs.Readable.{IsReadable}
 use Rattle.py_answers.specs.Replying.{IsGenerator}
 use Rattle.py_run.specs.declared.drive.Drive.{Drive}
 use Rattle.py_run.specs.Calls.{Setting}
-use Rattle.py_run.proofs.FirstLemmas.{below_behind}
 use Rattle.py_vm.specs.declared.calls.Course.{Course as MadeCourse}
 use Rattle.py_vm.specs.declared.calls.Course.TheVariants as course
 use Rattle.py_vm.specs.declared.reply.Reply.{Reply as MadeReply}
@@ -52,7 +50,6 @@ use Rattle.py_vm.specs.declared.stage.Halted.{Halted}
 use Rattle.py_vm.specs.declared.stage.Suspended.{Suspended}
 use Rattle.py_vm.specs.declared.stage.Stage.{Stage}
 use Rattle.py_vm.specs.declared.stage.Stage.TheVariants as stage
-use Rattle.py_vm.specs.declared.raises.KeptRaise.{KeptRaise}
 use Rattle.py_vm.specs.declared.machinery.Core.{Core}
 use Rattle.py_vm.specs.declared.calls.Standing.{Standing}
 use Rattle.py_vm.specs.declared.world.World.{World}
@@ -61,11 +58,13 @@ use Rattle.py_vm.specs.Holds.{AreRunnable}
 use Rattle.py_vm.specs.Codes.{Checked}
 use Rattle.py_vm.specs.Courses.{EntersBy, IsCourse, IsReplied, IsResumption, NamesThere, TakesThrows}
 use Rattle.py_vm.specs.Generators.{changed_at, entered_at, generator_asked, is_close, kept_at, without_activation, IsRunningNow}
-use Rattle.py_vm.specs.Turns.{fresh, next_frame, passed, setting_at, AnsweredOne, AreReady, CanFinish, CanFollow, CanReply, CanTell, Comes_on, CreatedOne, Finished, FirstAsks, FollowedOne, Halts, HasOwnSlot, HoldsIn, IsCreated, IsEntering, IsFreshFor, IsOpened, IsResumable, IsSaid, IsStepped, IsToldStep, IsTracedAs, IsTracedBy, MadeOne, NotedOne, Questioned, Replies, ResumedOne, SettledOne, ToldOne, WentOn, raising_in}
-use Rattle.py_vm.specs.Raises.{raise_at, AreThere}
+use Rattle.py_vm.specs.declared.raising.Raising.{Raising}
+use Rattle.py_vm.specs.Raising.{raising_in, NotedOne}
+use Rattle.py_vm.specs.Turns.{fresh, next_frame, passed, setting_at, AnsweredOne, AreReady, AsksNoRaise, CanFinish, CanFollow, CanReply, Comes_on, CreatedOne, Finished, FirstAsks, FirstRaises, FollowedOne, Halts, HasOwnSlot, HoldsIn, IsCreated, IsEntering, IsFreshFor, IsOpened, IsResumable, IsSaid, IsStepped, IsToldStep, MadeOne, Questioned, Replies, ResumedOne, SettledOne, WentOn}
 use Rattle.py_vm.proofs.JournalLemmas.{readable_on}
 use Rattle.py_vm.proofs.KeptLemmas.{kept_changed}
-use Rattle.py_vm.proofs.RaisedLemmas.{there_grown, traced_grows, traced_same}
+use Rattle.py_vm.proofs.NotedLemmas.{noted_grown}
+use Rattle.py_vm.proofs.RaisingLemmas.{first_grown, object_raises, replied_raises, said_raises, AsksThis}
 use Rattle.py_vm.proofs.QuestionsLemmas.{opened_call}
 use Rattle.py_vm.proofs.LeavingLemmas.{finished_call, finished_generator, replies_at, some_question}
 
@@ -116,35 +115,15 @@ pub halted_on : (m m' : Core) (store : Kept) (generators : List KeptGenerator) (
 halted_on m m' store generators frames callers slots stage grown halts =
     halts_trans m (record m { world = record m.world { store = store; generators = generators }; frames = frames; callers = callers; slots = slots; stage = stage }) m' (grew_halts m store generators frames callers slots stage grown) halts
 
--- and one of which an exception gets its context
-pub raising_halts : (m m' : Core) (raising : Option PyBaseExceptionRef) → Halts (record m { raising = raising }) m' → Halts m m'
+-- and one by which an exception was brought in
+pub raising_halts : (m m' : Core) (raising : Option Raising) → Halts (record m { raising = raising }) m' → Halts m m'
 raising_halts m m' raising halts = halts_trans m (record m { raising = raising }) m' (halts_with m (record m { raising = raising }) refl (longer_refl m.world.store) refl refl refl refl refl) halts
 
 -- so does one that noted a raise
 pub noted_halts : (m n : Core) (h : Halted) (w : Answer) → NotedOne m h w n → Halts m n
-noted_halts m n h w (raises, noted, same) = subst (Halts m) (sym same) (halts_with m (record m { raises = raises; raising = raising_in m.events h w }) refl (longer_refl m.world.store) refl refl refl refl refl)
-
--- and one that told an exit a traceback
-pub traced_halts : (m n : Core) (e t : Obj) → AreThere m.world.store.made m.raises → IsTracedBy m e (raise_at m.raises e) t n → Halts m n
-traced_halts m n e t there traced =
-    subst (Halts m) (sym (traced_same m n e t (raise_at m.raises e) traced))
-    (halts_with m (record m { world = record m.world { store = n.world.store }; raises = n.raises }) refl (grown_longer m.world.store n.world.store (traced_grows m n e t there traced)) refl refl refl refl refl)
-
-pub told_halts : (m n : Core) (q told_so : Request) → AreThere m.world.store.made m.raises → ToldOne m q told_so n → Halts m n
-told_halts m n (request.Exit x c e t) told_so there (inl (none, is, same)) = subst (Halts m) (sym same) (halts_refl m)
-told_halts m n (request.Exit x c e t) told_so there (inr (exception, (u, is, traced))) = traced_halts m n e u there traced
-told_halts m n q told_so there tells = subst (Halts m) (sym tells.1) (halts_refl m)
-
--- a step that asks can be told
-pub can_tell : (m : Core) (store : Kept) (slots : Slots) (s : FrameStep) (at : ℕ) → IsReadable m.world.store → AreThere m.world.store.made m.raises → IsGrown m.world.store store → TellsBelow (length store.made) (own_of_step (told at s))
-    → CanTell (record m { world = record m.world { store = store }; slots = slots }) s
-can_tell m store slots (step.Ask q own) at readable there grown below =
-    (readable_on m.world.store store (grown_longer m.world.store store grown) readable, below_behind _ _ _ below.0, there_grown m.world.store.made store.made m.raises (objects_grow m.world.store store grown) there)
-can_tell m store slots step.Round at readable there grown below = tt
-can_tell m store slots (step.Yield v) at readable there grown below = tt
-can_tell m store slots (step.Return v) at readable there grown below = tt
-can_tell m store slots (step.Raise e) at readable there grown below = tt
-can_tell m store slots step.NoMemory at readable there grown below = tt
+noted_halts m n h w (store, raising, noted, same) =
+    let grown : IsGrown m.world.store store = noted_grown m.world.codes m.world.store h.running (raising_in m.events h w) store m.raising raising noted in
+    subst (Halts m) (sym same) (halts_with m (record m { world = record m.world { store = store }; raising = raising }) refl (grown_longer m.world.store store grown) refl refl refl refl refl)
 
 -- where only a frame's object was made
 pub object_halts : (m : Core) (store : Kept) (place : ℕ) → store ≡ with_object m.world.store (payload.Frame place) → Halts m (record m { world = record m.world { store = store } })
@@ -228,6 +207,12 @@ module _ (m : Core) (store : Kept) (list : List KeptGenerator) (at : Setting) (q
   course_said w is grown =
       let said : IsCourse (setting_at m) m.world.store store m.world.generators list q (course.Says w) = there (course.Says w) is in
       record { reply = said.0; says = said.1; grown = grown; replied = said.2; shuts = said.3; passed = said.4 }
+
+  -- what who asked raises by it is an exception
+  pub course_raises : (w : MadeReply) (hs : List Halted) → x ≡ course.Says w → IsGrown m.world.store store → RaisedThere m.world.store.made (topmost m.slots) → AllFit m.world.store.made → AsksThis m.events hs q → FirstRaises store m.events hs w
+  course_raises w hs is grown handled fit asks =
+      let said : IsCourse (setting_at m) m.world.store store m.world.generators list q (course.Says w) = there (course.Says w) is in
+      said_raises m store hs q said.0 w handled fit grown asks said.1 said.2
 
   -- which names objects
   pub course_names : (w : MadeReply) → x ≡ course.Says w → NamesThere store.made w
@@ -329,14 +314,16 @@ world_halts m w hs grows = subst (λ (x : World). Halts m (with_world m x hs)) (
 module _ (m : Core) (w : World) (at : Standing) (q : Request) (hs : List Halted) (c : MadeCourse) (grows : GrowsTo m.world w) (stands : setting_in m.world at ≡ setting_at m)
     (made : IsCourseFrom m.world w at q c) (can : CanReply m) where
   -- it can be followed
-  pub can_follow : FirstAsks m.world.codes m.events hs → CanFollow (with_world m w hs) c
-  can_follow asks = subst (λ (x : World). CanFollow (with_world m x hs) c) (sym grows.others) (by c refl)
+  pub can_follow : AsksThis m.events hs q → FirstAsks m.world m.events hs → CanFollow (with_world m w hs) c
+  can_follow this asks = subst (λ (x : World). CanFollow (with_world m x hs) c) (sym grows.others) (by c refl)
     where
       by : (y : MadeCourse) → c ≡ y → CanFollow (with_world m (record m.world { store = w.store; generators = w.generators }) hs) y
       by (course.Says r) is = (
         classes_grown m.world.zoo m.world.store.made w.store.made (objects_grow m.world.store w.store grows.grows) can.stored.classes,
         course_names m w.store w.generators (setting_in m.world at) q c stands made r is,
-        asks,
+        readable_on m.world.store w.store (grown_longer m.world.store w.store grows.grows) can.stored.readable,
+        first_grown m.world (record m.world { store = w.store; generators = w.generators }) m.events hs refl (objects_grow m.world.store w.store grows.grows) asks,
+        course_raises m w.store w.generators (setting_in m.world at) q c stands made r hs is grows.grows can.handled can.stored.readable.fit this,
       )
       by (course.Enters f vs) is =
           let opened = course_opened m w.store w.generators (setting_in m.world at) q c stands made f vs is in (
@@ -372,19 +359,6 @@ module _ (m : Core) (h : Halted) (n : ℕ) (q : Request) (own : Option PyBaseExc
 
 -- whatever stage a machine was at
 module _ (m : Core) (s : Stage) where
-  traced_at : (e t : Obj) (found : Option KeptRaise) (n : Core) → IsTracedBy (record m { stage = s }) e found t n → IsTracedBy m e found t (record n { stage = m.stage })
-  traced_at e t None n (none, is) = (none, ap (λ (y : Core). let z : Core = record y { stage = m.stage } in z) is)
-  traced_at e t (Some x) n traced = by x.traceback traced
-    where
-      by : (k : Option Obj) → IsTracedAs (record m { stage = s }) e x k t n → IsTracedAs m e x k t (record n { stage = m.stage })
-      by None (number, is) = (number, ap (λ (y : Core). let z : Core = record y { stage = m.stage } in z) is)
-      by (Some known) (same, is) = (same, ap (λ (y : Core). let z : Core = record y { stage = m.stage } in z) is)
-
-  told_at : (q told_so : Request) (n : Core) → ToldOne (record m { stage = s }) q told_so n → ToldOne m q told_so (record n { stage = m.stage })
-  told_at (request.Exit x c e t) told_so n (inl (none, is, same)) = inl (none, is, ap (λ (y : Core). let z : Core = record y { stage = m.stage } in z) same)
-  told_at (request.Exit x c e t) told_so n (inr (exception, (u, is, traced))) = inr (exception, (u, is, traced_at e u (raise_at m.raises e) n traced))
-  told_at q told_so n tells = (tells.0, ap (λ (y : Core). let z : Core = record y { stage = m.stage } in z) tells.1)
-
   pub comes_on_at : (q : Request) (hs : List Halted) (a : Option DriveAnswer) (m' : Core) → Comes_on (record m { stage = s }) q hs a m' → Comes_on m q hs a m'
   comes_on_at q hs a m' (inl (store, list, w, said, replies)) = inl (
     store,
@@ -412,7 +386,7 @@ module _ (m : Core) (s : Stage) where
 
 -- a step that was made
 stepped_at : (m : Core) (s : Stage) (r : Running) (x : FrameStep) (m' : Core) → IsStepped (record m { stage = s }) r x m' → IsStepped m r x m'
-stepped_at m s r (step.Ask q own) m' (told_so, n, tells, is) = (told_so, record n { stage = m.stage }, told_at m s q told_so n tells, is)
+stepped_at m s r (step.Ask q own) m' is = is
 stepped_at m s r step.Round m' is = is
 stepped_at m s r (step.Yield v) m' is = is
 stepped_at m s r (step.Return v) m' is = is
@@ -420,16 +394,26 @@ stepped_at m s r (step.Raise e) m' is = is
 stepped_at m s r step.NoMemory m' is = is
 
 pub went_on_at : (m : Core) (s : Stage) (r : Running) (m' : Core) → WentOn (record m { stage = s }) r m' → WentOn m r m'
-went_on_at m s r m' (store, grown, x, f, told, stepped) =
-    (store, grown, x, f, told, stepped_at (record m { world = record m.world { store = store }; slots = slice_set m.slots 0 f.state.slot }) s (record r { frame = f }) x m' stepped)
+went_on_at m s r m' (store, grown, x, f, told, exit, stepped) =
+    (store, grown, x, f, told, exit, stepped_at (record m { world = record m.world { store = store }; slots = slice_set m.slots 0 f.state.slot }) s (record r { frame = f }) x m' stepped)
 
 -- ---- what comes behind a machine that settled, or made a generator
 
 -- it still can reply
+pub record StillReplies (n : Core) : Type 0 where
+  pub done : n.done ≤ length n.events
+  pub classes : HaveClasses n.world.zoo n.world.store.made
+  pub readable : IsReadable n.world.store
+  pub first : FirstAsks n.world n.events n.callers
+
 still_replies : (m : Core) (store : Kept) (list : List KeptGenerator) (n : Core) → n ≡ record m { world = record m.world { store = store; generators = list } } → IsGrown m.world.store store → m.done ≤ length m.events
-    → HaveClasses m.world.zoo m.world.store.made → (n.done ≤ length n.events) × HaveClasses n.world.zoo n.world.store.made
-still_replies m store list n same grown done classes =
-    subst (λ (k : Core). (k.done ≤ length k.events) × HaveClasses k.world.zoo k.world.store.made) (sym same) (done, classes_grown m.world.zoo m.world.store.made store.made (objects_grow m.world.store store grown) classes)
+    → HaveClasses m.world.zoo m.world.store.made → IsReadable m.world.store → FirstAsks m.world m.events m.callers → StillReplies n
+still_replies m store list n same grown done classes readable first = subst StillReplies (sym same) (record {
+  done = done;
+  classes = classes_grown m.world.zoo m.world.store.made store.made (objects_grow m.world.store store grown) classes;
+  readable = readable_on m.world.store store (grown_longer m.world.store store grown) readable;
+  first = first_grown m.world (record m.world { store = store; generators = list }) m.events m.callers refl (objects_grow m.world.store store grown) first;
+})
 
 -- and has no more than objects
 still_halts : (m : Core) (store : Kept) (list : List KeptGenerator) (n : Core) → n ≡ record m { world = record m.world { store = store; generators = list } } → IsGrown m.world.store store → Halts m n
@@ -437,10 +421,17 @@ still_halts m store list n same grown = subst (Halts m) (sym same) (grew_halts m
 
 -- a generator settled
 module _ (m n : Core) (g : Obj) (s : Suspended) (how : CoroEnd) (w : MadeReply) (settles : SettledOne m g s how w n) where
-  pub settled_replies : m.done ≤ length m.events → HaveClasses m.world.zoo m.world.store.made → (n.done ≤ length n.events) × HaveClasses n.world.zoo n.world.store.made
-  settled_replies done classes =
+  pub settled_replies : m.done ≤ length m.events → HaveClasses m.world.zoo m.world.store.made → IsReadable m.world.store → FirstAsks m.world m.events m.callers → StillReplies n
+  settled_replies done classes readable first =
       let (store, list, (x, here, body, has, a, finishes, grown, changes, replied, passed), same) = settles in
-      still_replies m store list n same grown done classes
+      still_replies m store list n same grown done classes readable first
+
+  -- what who asked raises by that is an exception
+  pub settled_raises : IsReadable m.world.store → AsksNoRaise m.events m.callers → FirstRaises n.world.store n.events n.callers w
+  settled_raises readable none =
+      let (store, list, (x, here, body, has, a, finishes, grown, changes, replied, passed), same) = settles in
+      subst (λ (k : Core). FirstRaises k.world.store k.events k.callers w) (sym same)
+      (replied_raises m.world.store.made store m.events m.callers _ w (objects_grow m.world.store store grown) (grown.objects.fit readable.fit) replied none)
 
   pub settled_halts : Halts m n
   settled_halts =
@@ -452,8 +443,15 @@ module _ (m n : Core) (r : Running) (f : Obj) (kind : CoroKind) (g : Obj) (creat
   created_grown : (store : Kept) (x : KeptGenerator) → IsCreated m r f kind x store → IsGrown m.world.store store
   created_grown store x created = added_grown m.world.store store (payload.Generator _) created.added refl refl (λ fit. tt) (λ fit. tt)
 
-  pub created_replies : m.done ≤ length m.events → HaveClasses m.world.zoo m.world.store.made → (n.done ≤ length n.events) × HaveClasses n.world.zoo n.world.store.made
-  created_replies done classes = let (x, store, created, is, same) = creates in still_replies m store (m.world.generators ++ x ∷ []) n same (created_grown store x created) done classes
+  pub created_replies : m.done ≤ length m.events → HaveClasses m.world.zoo m.world.store.made → IsReadable m.world.store → FirstAsks m.world m.events m.callers → StillReplies n
+  created_replies done classes readable first =
+      let (x, store, created, is, same) = creates in
+      still_replies m store (m.world.generators ++ x ∷ []) n same (created_grown store x created) done classes readable first
+
+  pub created_raises : AsksNoRaise m.events m.callers → FirstRaises n.world.store n.events n.callers (made.Value g)
+  created_raises none =
+      let (x, store, created, is, same) = creates in
+      subst (λ (k : Core). FirstRaises k.world.store k.events k.callers (made.Value g)) (sym same) (object_raises store m.events m.callers g none)
 
   pub created_halts : Halts m n
   created_halts = let (x, store, created, is, same) = creates in still_halts m store (m.world.generators ++ x ∷ []) n same (created_grown store x created)
@@ -461,16 +459,16 @@ module _ (m n : Core) (r : Running) (f : Obj) (kind : CoroKind) (g : Obj) (creat
 -- the generator that the open question asks runs
 pub entered_runs : (m : Core) (d : Drive) (how : CoroEnd) (o : Option Obj) (g : Obj) → CanFinish m d how → ((q : Request) → Questioned m.events d m.callers q → o ≡ generator_asked q) → o ≡ Some g
     → IsRunningNow m.world.generators g × IsGenerator m.world.store.made g
-entered_runs m d how o g (stored, ending, runs, asks) entered is = let (q, asked) = some_question m.world.codes m.events d m.callers asks in runs q asked g (sym (entered q asked) ∙ is)
+entered_runs m d how o g (stored, ending, runs, asks, none) entered is = let (q, asked) = some_question m.world m.events d m.callers asks in runs q asked g (sym (entered q asked) ∙ is)
 
 -- what finishes a call or a generator, whichever the open question asks
 module _ (m : Core) (d : Drive) (s : Suspended) (how : CoroEnd) (o : Option Obj) (can : CanFinish m d how) (entered : (q : Request) → Questioned m.events d m.callers q → o ≡ generator_asked q) where
   pub call_finished : (a : Option DriveAnswer) (m' : Core) → o ≡ None → Replies m (passed how) m.callers a m' → Finished m d s how a m'
   call_finished a m' none replies =
-      let (q, asked) = some_question m.world.codes m.events d m.callers can.3 in
+      let (q, asked) = some_question m.world m.events d m.callers can.3 in
       finished_call m d s how q asked a m' (sym none ∙ entered q asked) replies
 
   pub generator_finished : (g : Obj) (w : MadeReply) (n : Core) (a : Option DriveAnswer) (m' : Core) → o ≡ Some g → SettledOne m g s how w n → Replies n w n.callers a m' → Finished m d s how a m'
   generator_finished g w n a m' is settles replies =
-      let (q, asked) = some_question m.world.codes m.events d m.callers can.3 in
+      let (q, asked) = some_question m.world m.events d m.callers can.3 in
       finished_generator m d s how q asked g w n a m' (sym is ∙ entered q asked) settles replies

@@ -11,7 +11,7 @@ use Rattle.py_objects.specs.declared.request.Request.{Request}
 use Rattle.py_objects.specs.declared.event.Event.{Event}
 use Rattle.py_objects.specs.declared.event.Event.TheVariants as event
 use Rattle.py_objects.specs.declared.event.DriveAnswer.{DriveAnswer}
-use Rattle.py_objects.specs.Objects.{Obj, HasPayload, number_if, request_numbers, AllBelow}
+use Rattle.py_objects.specs.Objects.{Obj, HasPayload, request_numbers, AllBelow}
 use Rattle.py_objects.specs.Growth.{IsGrown}
 use Rattle.py_objects.specs.Edits.{Kept}
 use Rattle.py_objects.proofs.GrownLemmas.{objects_grow, grown_trans}
@@ -25,6 +25,7 @@ use Rattle.py_answers.specs.Replying.{IsGenerator}
 use Rattle.py_run.specs.declared.drive.Drive.{Drive}
 use Rattle.py_run.specs.Calls.{ComesTo, Says}
 use Rattle.py_run.specs.Drives.{request_of}
+use Rattle.py_run.specs.Raises.{is_raising}
 use Rattle.py_run.specs.Run.{start, state_after, question}
 use Rattle.py_run.specs.Generators.{answered, closed_by}
 use Rattle.py_run.proofs.RunLemmas.{answered_grows, comes_to_grows}
@@ -39,11 +40,13 @@ use Rattle.py_vm.specs.declared.machinery.Core.{Core}
 use Rattle.py_vm.specs.Codes.{Checked}
 use Rattle.py_vm.specs.Generators.{generator_asked, kept_at, modes_of, IsRunningNow}
 use Rattle.py_vm.specs.Machine.{plan_of, IsCallable}
-use Rattle.py_vm.specs.Stands.{AreEach, HasEntered, IsGoing, IsHalted, IsKept as IsKeptAs, Keeps, KeepsIn, caller_acts, caller_frames, first_slot, slots_in, stacked}
-use Rattle.py_vm.specs.Turns.{past_at, setting_at, AnsweredOne, AreReady, CanNote, CanReply, Comes_on, FirstAsks, HasOwnSlot, HoldsIn, IsBusy, IsReady, IsSaid, Replies, Started, Turned, Turns}
+use Rattle.py_vm.specs.Raising.{IsTraceable}
+use Rattle.py_vm.specs.Stands.{AreEach, HasEntered, IsGoing, IsHalted, IsInside, IsKept as IsKeptAs, Keeps, KeepsIn, asking, caller_acts, caller_frames, first_slot, slots_in, stacked}
+use Rattle.py_vm.specs.Turns.{past_at, setting_at, AnsweredOne, AreReady, AsksNoRaise, CanReply, Comes_on, FirstAsks, HasOwnSlot, HoldsIn, IsBusy, IsReady, IsSaid, Replies, Started, Turned, Turns}
+use Rattle.py_vm.proofs.RaisingLemmas.{entering_none}
 use Rattle.py_vm.proofs.WantedLemmas.{said_wanted}
 use Rattle.py_vm.proofs.KeptLemmas.{kept_object}
-use Rattle.py_vm.proofs.ChainLemmas.{Anyone, AreHalted, all_others, inside_halted, raised_grown, slots_low, slots_shape, slots_there, topmost_holds}
+use Rattle.py_vm.proofs.ChainLemmas.{Anyone, AreHalted, all_others, inside_halted, raised_grown, slots_shape, slots_there, topmost_holds}
 use Rattle.py_vm.proofs.ChangesLemmas.{IsChange, each_at}
 use Rattle.py_vm.proofs.ShuttingLemmas.{said_change}
 use Rattle.py_vm.proofs.NextLemmas.{done_counted, made_counted}
@@ -123,7 +126,7 @@ turned_law m d stage.Asking a m' k callable comes =
     comes_law m d stage.Asking [] (request_of d) k (drive_open m d k) (record { stack = k.follows.stack ∙ ap (caller_acts m.events) none; frames = k.nested.frames ∙ ap caller_frames none; slots = k.nested.slots ∙ ap slots_in none }) refl (λ is. none)
     (drive_below (length m.world.store.made) d callable) a m' comes
 turned_law m d (stage.Made r f) a m' k callable started = started_law m d r f a m' r.kind refl k started
-turned_law m d (stage.Going r) a m' k callable (no_answer, (store, grown, step, f, told, stepped)) =
+turned_law m d (stage.Going r) a m' k callable (no_answer, (store, grown, step, f, told, exit, stepped)) =
     subst (λ x. Turns m d (stage.Going r) x m') (sym no_answer) (stepped_law m d r store k grown step f m' told stepped)
 turned_law m d (stage.Waiting h) a m' k callable answered = answered_law m d h a m' k answered
 turned_law m d (stage.Due s how) a m' k callable finished = finished_law m d s how k a m' finished
@@ -147,7 +150,7 @@ can_reply : (m : Core) (d : Drive) (s : Stage) (hs : List Halted) → Keeps m d 
 can_reply m d s hs k slots halted = record {
   stored = k.stored;
   runnable = k.runnable;
-  handled = subst (λ l. AllBelow (length m.world.store.made) (number_if (topmost l))) (sym slots) (topmost_holds m (λ x. AllBelow (length m.world.store.made) (number_if x)) (slots_in hs) tt (slots_low m hs halted));
+  handled = subst (λ l. RaisedThere m.world.store.made (topmost l)) (sym slots) (topmost_holds m (RaisedThere m.world.store.made) (slots_in hs) tt (slots_there m hs halted));
   generators = are_ready m.world.codes m.globals m.world.store.made m.events m.made m.world.generators k.kept.each;
 }
 
@@ -184,15 +187,23 @@ entered_runs m d s each asks g is = by_kind s.running.kind asks.entered
         ((enters.kept, here, enters.runs), (x.body, subst (λ o. HasPayload m.world.store.made o (payload.Generator x.body)) object x.entry))
 
 -- an activation that waits stands at a unit of its code
-can_note : (m : Core) (h : Halted) (slot : Option PyBaseExceptionRef) → IsHalted m.world.codes m.globals m.world.store.made m.events h slot → CanNote m.world.codes h
-can_note m h slot x = record { code = x.plays.code; is_code = ap (slice_get m.world.codes.codes) x.plays.placed ∙ x.plays.is_code; within = x.plays.running.within }
+traceable : (m : Core) (h : Halted) (slot : Option PyBaseExceptionRef) → IsHalted m.world.codes m.globals m.world.store.made m.events h slot → IsTraceable m.world.codes m.world.store.made h.running
+traceable m h slot x =
+    record { code = x.plays.code; is_code = ap (slice_get m.world.codes.codes) x.plays.placed ∙ x.plays.is_code; within = x.plays.running.within; entry = (x.plays.body.code, x.plays.entry) }
 
 -- the innermost of those that wait asked something
-first_asks : (m : Core) (hs : List Halted) → AreHalted m hs → FirstAsks m.world.codes m.events hs
+first_asks : (m : Core) (hs : List Halted) → AreHalted m hs → FirstAsks m.world m.events hs
 first_asks m [] halted = tt
 first_asks m (h ∷ hs) halted =
     let q = halted.0.question in
-    ((q.act, q.request, q.own, q.at, q.entry), can_note m h (first_slot h.running.kind hs) halted.0)
+    ((q.act, q.request, q.own, q.at, q.entry), traceable m h (first_slot h.running.kind hs) halted.0)
+
+-- and raises no value where it entered an activation
+no_raise : (m : Core) (d : Drive) (kind : Option CoroKind) (a : ℕ) (hs : List Halted) → IsInside m.world.codes m.globals m.world.store.made m.events m.world.generators d kind a hs → AsksNoRaise m.events hs
+no_raise m d kind a [] inside = tt
+no_raise m d kind a (h ∷ hs) inside =
+    let q = inside.0.question in
+    ap (λ (x : Option Event). is_raising (asking h.running.act x).asks) q.entry ∙ entering_none m.world.generators q.request kind a inside.1
 
 -- a machine that keeps its invariant is ready for its turn
 pub ready_law : (m : Core) (d : Drive) (s : Stage) → Keeps m d s → IsBusy s → IsCallable m.world.store.made d → IsReady m d s
@@ -207,6 +218,7 @@ ready_law m d (stage.Made r f) k busy callable =
       (p.body, subst (λ o. HasPayload m.world.store.made o (payload.Function p.body)) k.at_stage.1 p.is_function),
       can_reply m d (stage.Made r f) m.callers k k.nested.slots (inside_halted m m.world.generators d None r.act m.callers k.at_stage.5),
       first_asks m m.callers (inside_halted m m.world.generators d None r.act m.callers k.at_stage.5),
+      no_raise m d None r.act m.callers k.at_stage.5,
     )
 ready_law m d (stage.Going r) k busy callable =
     let going : IsGoing m.world.codes m.globals m.world.store.made m.events r (first_slot r.kind m.callers) = k.at_stage.0 in
@@ -222,19 +234,17 @@ ready_law m d (stage.Going r) k busy callable =
         fit = k.stored.readable.fit;
       },
       subst (HasOwnSlot r.kind) (sym k.nested.slots) (own_over m r.kind r.frame.state.slot m.callers),
-      k.stored.readable,
-      k.raised.there,
     )
 ready_law m d (stage.Waiting h) k busy callable = (
   done_counted m d (stage.Waiting h) k,
   made_counted m d (stage.Waiting h) k,
   can_reply m d (stage.Waiting h) (h ∷ m.callers) k k.nested.slots (k.at_stage.0, inside_halted m m.world.generators d h.running.kind h.running.act m.callers k.at_stage.1.inside),
   k.at_stage.0.question,
-  can_note m h (first_slot h.running.kind m.callers) k.at_stage.0,
+  traceable m h (first_slot h.running.kind m.callers) k.at_stage.0,
 )
 ready_law m d (stage.Due s how) k busy callable =
     let asks : Asker m d m.callers s.running.kind s.running.act = asker m d s.running.kind s.running.act m.callers k.follows.stack k.nested.frames k.nested.slots k.nested.apart k.at_stage.2.inside in
     let halted : AreHalted m m.callers = inside_halted m m.world.generators d s.running.kind s.running.act m.callers k.at_stage.2.inside in (
       done_counted m d (stage.Due s how) k,
-      (k.stored, k.at_stage.0, (λ q questioned g is. entered_runs m d s k.kept.each asks g (ap generator_asked (sym (asks.is q questioned)) ∙ is)), first_asks m m.callers halted),
+      (k.stored, k.at_stage.0, (λ q questioned g is. entered_runs m d s k.kept.each asks g (ap generator_asked (sym (asks.is q questioned)) ∙ is)), first_asks m m.callers halted, no_raise m d s.running.kind s.running.act m.callers k.at_stage.2.inside),
     )

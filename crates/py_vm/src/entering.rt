@@ -4,11 +4,12 @@ ghost use Rattle.std.specs.Prelude.{◌≡◌, ◌≤◌, length, IfOk, OnOk, On
 ghost use Rattle.py_objects.specs.Objects.{IsFunction};
 ghost use Rattle.py_answers.specs.Readable.{IsReadable};
 ghost use Rattle.py_vm.specs.Holds.{AreRunnable};
-ghost use Rattle.py_vm.specs.Turns.{entered_by, input_of, thrown_by, CanReply, CreatesOne, FirstAsks, Halts, IsResumable, MadeOne, MakesFresh, ResumedOne, StartedOne};
+ghost use Rattle.py_vm.specs.Turns.{entered_by, input_of, AsksNoRaise, CanReply, CreatesOne, FirstAsks, Halts, IsResumable, MadeOne, MakesFresh, ResumedOne, StartedOne};
 
 use crate::calls::kind_of;
 use crate::generators::KeptGenerator;
 use crate::machinery::Core;
+use crate::raising::Raising;
 use crate::reading::function_body;
 use crate::reply::Reply;
 use crate::stage::{Running, Stage, Suspended};
@@ -16,8 +17,8 @@ use py_code::{NoMemory, PyCode};
 use py_coro::Coro;
 use py_frame::{Frame, FrameConstructor, Input, OwnStack, positional};
 use py_objects::{
-    CoroBody, CoroKind, DriveAnswer, Event, FrameRef, ObjList, Payload, PyBaseExceptionRef,
-    PyObjectRef, ResumeHow, Scope,
+    CoroBody, CoroKind, DriveAnswer, Event, FrameRef, ObjList, Payload, PyObjectRef, ResumeHow,
+    Scope,
 };
 use std::alloc::Global;
 
@@ -54,7 +55,8 @@ impl Core {
         requires done { self.old.done ≤ length self.old.events }
         requires can { CanReply self.old }
         requires function { IsFunction self.old.world.store.made function }
-        requires first { FirstAsks self.old.world.codes self.old.events self.old.callers }
+        requires first { FirstAsks self.old.world self.old.events self.old.callers }
+        requires no_raise { AsksNoRaise self.old.events self.old.callers }
         ensures ok { IfOk result (StartedOne self.old running function self.new) }
         ensures err { OnErr result (Halts self.old self.new) }
     {
@@ -140,7 +142,7 @@ impl Core {
         let entry = running.frame.entry();
         let mut going = running;
         going.frame.hear(slot, input_of(how));
-        self.raising = thrown_by(how);
+        self.raising = Raising::by_throw(how);
         self.set_stage(Stage::Going(going));
         self.frames.push(entry)?;
         self.slots.push_exception(slot)?;
@@ -205,17 +207,6 @@ fn input_of(how: ResumeHow) -> Input
         ResumeHow::Start => Input::Start,
         ResumeHow::Send(value) => Input::Send(value),
         ResumeHow::Throw(exception) => Input::Throw(exception),
-    }
-}
-
-/// The exception that is thrown where an activation is entered like this, if one is.
-fn thrown_by(how: ResumeHow) -> Option<PyBaseExceptionRef>
-    ensures { result ≡ thrown_by how }
-{
-    match how {
-        ResumeHow::Start => None,
-        ResumeHow::Send(_) => None,
-        ResumeHow::Throw(exception) => Some(exception),
     }
 }
 

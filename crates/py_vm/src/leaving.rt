@@ -69,7 +69,7 @@ impl Core {
 
     /// The generator that the open question has entered, if it has entered one.
     fn generator_entered(&self, drive: &Drive) -> Option<PyObjectRef>
-        requires { FirstAsks self.now.world.codes self.now.events self.now.callers }
+        requires { FirstAsks self.now.world self.now.events self.now.callers }
         ensures { EntersAs self.now drive.now result }
     {
         let Some(halted) = self.callers.last() else {

@@ -1,160 +1,115 @@
-//! The raises that a machine notes, and the tracebacks that it tells exits of them.
+//! The links that an exception gets in the body that it is brought into: its context, and an entry in front of its traceback.
 
-ghost use Rattle.std.specs.Prelude.{◌≡◌, Some, length, IfOk, OnOk, OnErr};
-ghost use Rattle.py_objects.specs.Objects.{AllBelow, request_numbers};
+ghost use Rattle.std.specs.Prelude.{◌≡◌, ◌≤◌, ◌<◌, ◌+◌, length, IfOk, OnOk, OnErr};
+ghost use Rattle.py_objects.specs.Objects.{as_object, IfThere, IsException, IsTraceback};
+ghost use Rattle.py_exceptions.specs.Tracebacks.{traceback_object};
 ghost use Rattle.py_answers.specs.Readable.{IsReadable};
-ghost use Rattle.py_frame.specs.Steps.{got_of};
-ghost use Rattle.py_run.specs.Raises.{is_raising, raised_by};
-ghost use Rattle.py_vm.specs.Machine.{IsFrame};
-ghost use Rattle.py_vm.specs.Raises.{AreThere};
-ghost use Rattle.py_vm.specs.Turns.{AsksAt, CanNote, Halts, IsLastTraced, IsTraced, NotedOne, ToldOne, raising_by};
+ghost use Rattle.py_stack.specs.Slots.{topmost};
+ghost use Rattle.py_vm.specs.Raising.{raising_in, AreThere, CanLink, ContextOf, EntryOf, IsTraceable, Linked, MakesEntry, NotedOne, RaisesException};
+ghost use Rattle.py_vm.specs.Turns.{AsksAt, Halts};
 
 use crate::machinery::Core;
-use crate::raises::KeptRaise;
-use crate::stage::Halted;
-use py_answers::entry;
+use crate::raising::Raising;
+use crate::stage::{Halted, Running};
+use crate::world::World;
 use py_code::NoMemory;
-use py_exceptions::PyTraceback;
+use py_exceptions::{BaseException, PyTraceback, contextualize_exception};
 use py_frame::Answer;
-use py_objects::{Event, Payload, PyBaseExceptionRef, PyObjectRef, Request};
-use std::mem;
+use py_objects::{Event, PyBaseExceptionRef, PyTracebackRef, Store};
+use py_stack::ExceptionStack;
 
 impl Core {
-    /// Notes what an answer raises in the body that gets it (Python Language Reference, 7.8), and where that is, and what gets its context there.
+    /// Notes what an answer brings into the body that gets it, if it raises anything there (Python Language Reference, 7.8). Its entry is made
+    /// before the answer is told, so that nothing has happened where memory runs out here.
     pub(crate) fn note(&mut self, halted: &Halted, answer: Answer) -> Result<(), NoMemory>
         requires asked { AsksAt self.old.events halted.now.place }
-        requires can { CanNote self.old.world.codes halted.now }
+        requires traceable { IsTraceable self.old.world.codes self.old.world.store.made halted.now.running }
+        requires readable { IsReadable self.old.world.store }
+        requires raises { RaisesException self.old.world.store.made (raising_in self.old.events halted.now answer) }
         ensures ok { OnOk result (NotedOne self.old halted.now answer self.new) }
         ensures err { OnErr result (Halts self.old self.new) }
     {
         let Some(Event::Ask { request, .. }) = self.events.get(halted.place) else {
             unreachable!();
         };
-        let raised = raised_by(request, answer);
-        self.raising = raising_by(request, answer);
-        let Some(exception) = raised else {
+        let Some(raising) = Raising::by_answer(request, answer) else {
             return Ok(());
         };
-        let frame = &halted.running.frame;
-        let Some(code) = self.world.codes.get(frame.f_code()) else {
-            unreachable!();
-        };
-        let raise = KeptRaise {
-            frame: frame.entry(),
-            lasti: frame.lasti(),
-            lineno: frame.current_location(code),
-            traceback: None,
-        };
-        self.raises.insert(exception, raise)?;
+        let entry = self.world.new_entry(&halted.running, raising.exception)?;
+        self.raising = Some(Raising {
+            exception: raising.exception,
+            gets_context: raising.gets_context,
+            entry: Some(entry),
+        });
         Ok(())
     }
 
-    /// A question as it is told. An exit is told the traceback of an exception's last raise (Python Language Reference, 3.3.9): whose it is
-    /// depends on what happened, of which a frame knows its own part alone.
-    pub(crate) fn told(&mut self, request: Request) -> Result<Request, NoMemory>
-        requires readable { IsReadable self.old.world.store }
-        requires below { AllBelow (length self.old.world.store.made) (request_numbers request) }
-        requires raises { AreThere self.old.world.store.made self.old.raises }
-        ensures ok { IfOk result (λ told. ToldOne self.old request told self.new) }
-        ensures err { OnErr result (Halts self.old self.new) }
+    /// The exception that the event has brought into a body gets its links there, if there is one.
+    pub(crate) fn link(&mut self)
+        requires room { 3 ≤ self.old.world.store.spare }
+        requires marked { self.old.world.store.mark ≤ length self.old.events }
+        requires can { CanLink self.old self.old.raising }
+        ensures { Linked self.old self.new }
     {
-        let Request::Exit(exit, class, exception, _) = &request else {
-            return Ok(request);
+        let Some(raising) = self.raising else {
+            return;
         };
-        let (exit, class, exception) = (*exit, *class, *exception);
-        if !matches!(entry(&self.world.store, exception), Payload::Exception(_)) {
-            return Ok(request);
-        }
-        // Let go of here, in one step, and not at each way out of what follows.
-        mem::drop(request);
-        let traceback = self.traceback(exception)?;
-        Ok(Request::Exit(exit, class, exception, traceback))
+        self.world.store.mark(self.events.len() as u64);
+        contextualize(&mut self.world.store, &self.slots, raising);
+        trace(&mut self.world.store, raising);
     }
+}
 
-    /// The traceback of an exception's last raise, which is new where no exit was told it yet. None where it was never raised in a body.
-    fn traceback(&mut self, exception: PyObjectRef) -> Result<PyObjectRef, NoMemory>
-        requires { AreThere self.old.world.store.made self.old.raises }
-        ensures ok { IfOk result (IsLastTraced self.old exception self.new) }
-        ensures err { OnErr result (Halts self.old self.new) }
-    {
-        let Some(raise) = self.raises.get(exception) else {
-            return Ok(self.world.store.none());
-        };
-        match raise.traceback {
-            Some(traceback) => Ok(traceback),
-            None => self.add_traceback(exception, raise),
-        }
-    }
-
-    /// A new traceback, which belongs to this raise from now on.
-    fn add_traceback(
+impl World {
+    /// A new entry for the traceback of an exception, which leads on to the one that it has: the frame of an activation that asked, the place
+    /// after the unit that asked, and that unit's line.
+    fn new_entry(
         &mut self,
-        exception: PyObjectRef,
-        raise: KeptRaise,
-    ) -> Result<PyObjectRef, NoMemory>
-        requires { IsFrame self.old.world.store.made raise.frame }
-        ensures ok { IfOk result (λ object. IsTraced self.old exception raise object self.new) }
-        ensures err { OnErr result (Halts self.old self.new) }
+        running: &Running,
+        exception: PyBaseExceptionRef,
+    ) -> Result<PyTracebackRef, NoMemory>
+        requires traceable { IsTraceable self.old.codes self.old.store.made running.now }
+        requires readable { IsReadable self.old.store }
+        requires exception { IsException self.old.store.made (as_object exception) }
+        ensures ok { IfOk result (MakesEntry self.old running.now exception self.new) }
+        ensures err { OnErr result (self.new ≡ self.old) }
     {
-        let KeptRaise {
-            frame,
-            lasti,
-            lineno,
-            traceback: _,
-        } = raise;
-        let entry = PyTraceback::new(&mut self.world.store, None, frame, lasti, lineno)?;
-        let traceback = PyObjectRef::from(entry);
-        let told = KeptRaise {
-            frame,
-            lasti,
-            lineno,
-            traceback: Some(traceback),
+        let frame = &running.frame;
+        let Some(code) = self.codes.get(frame.f_code()) else {
+            unreachable!();
         };
-        self.raises.insert(exception, told)?;
-        Ok(traceback)
+        let lineno = frame.current_location(code);
+        let next = exception.traceback(&self.store);
+        PyTraceback::new(
+            &mut self.store,
+            next,
+            frame.entry(),
+            running.after_told(),
+            lineno,
+        )
     }
 }
 
-/// What an answer to a question raises in the body that gets it, if anything.
-fn raised_by(request: &Request, answer: Answer) -> Option<PyObjectRef>
-    ensures { result ≡ raised_by (Some request.now) (got_of answer) }
+/// What is handled becomes the context of an exception that gets it.
+fn contextualize(store: &mut Store, slots: &ExceptionStack, raising: Raising)
+    requires room { 2 ≤ store.old.spare }
+    requires there { AreThere store.old.made (topmost slots.now) raising }
+    ensures context { ContextOf raising.gets_context store.old store.new (topmost slots.now) raising.exception }
+    ensures spare { store.old.spare ≤ store.new.spare + 2 }
 {
-    match answer {
-        Answer::Value(value) => {
-            if is_raising(request) {
-                Some(value)
-            } else {
-                None
-            }
-        }
-        Answer::Stop(_) => None,
-        Answer::Fresh(exception) | Answer::Passed(exception) => Some(PyObjectRef::from(exception)),
+    if raising.gets_context {
+        contextualize_exception(store, slots, raising.exception);
     }
 }
 
-/// The exception that gets its context where a body gets an answer, if there is one: one that the body raises, or that the answer made.
-fn raising_by(request: &Request, answer: Answer) -> Option<PyBaseExceptionRef>
-    ensures { result ≡ raising_by (Some request.now) answer }
+/// The traceback of an exception gets its entry in front, if there is one.
+fn trace(store: &mut Store, raising: Raising)
+    requires room { 0 < store.old.spare }
+    requires exception { IsException store.old.made (as_object raising.exception) }
+    requires entry { IfThere (IsTraceback store.old.made) (traceback_object raising.entry) }
+    ensures { EntryOf store.old store.new raising.exception raising.entry }
 {
-    match answer {
-        Answer::Value(value) => {
-            if is_raising(request) {
-                Some(PyBaseExceptionRef {
-                    number: value.number,
-                })
-            } else {
-                None
-            }
-        }
-        Answer::Fresh(exception) => Some(exception),
-        Answer::Passed(_) => None,
-        Answer::Stop(_) => None,
+    if let Some(entry) = raising.entry {
+        raising.exception.set_traceback(store, Some(entry));
     }
-}
-
-/// Whether who asks this raises the value that it is answered.
-fn is_raising(request: &Request) -> bool
-    ensures { result ≡ is_raising (Some request.now) }
-{
-    matches!(request, Request::Handled | Request::Raisable(_))
 }

@@ -1,4 +1,4 @@
-//! The tracebacks that exits are told, as the journal of a script has them: no script tells two of them apart.
+//! The tracebacks that exits are told, as the journal of a script has them: each body that an exception is raised in puts an entry in front.
 
 use crate::running::journal_of;
 use py_code::NoMemory;
@@ -21,8 +21,11 @@ fn told_by(event: &Event) -> Option<PyObjectRef> {
     Some(*traceback)
 }
 
-/// Of each traceback that an exit of the script is told: whether it is the one before, and the line that it names.
-fn tracebacks_told(alloc: Global) -> Result<Vec<(bool, u32)>, NoMemory> {
+/// A traceback that an exit is told: whether it is the one before, whether it leads on to that, and its line.
+type Told = (bool, bool, u32);
+
+/// Those that the exits of the script are told.
+fn tracebacks_told(alloc: Global) -> Result<Vec<Told>, NoMemory> {
     let journal = journal_of(alloc, SCRIPT)?;
     let mut told = Vec::new(alloc);
     let mut last = None;
@@ -31,7 +34,8 @@ fn tracebacks_told(alloc: Global) -> Result<Vec<(bool, u32)>, NoMemory> {
             continue;
         };
         if let Some(Payload::Traceback(body)) = journal.objects.get(traceback.number as usize) {
-            told.push((last == Some(traceback), body.lineno))?;
+            let leads_on = body.next.is_some() && body.next == last;
+            told.push((last == Some(traceback), leads_on, body.lineno))?;
         }
         last = Some(traceback);
     }
@@ -39,11 +43,11 @@ fn tracebacks_told(alloc: Global) -> Result<Vec<(bool, u32)>, NoMemory> {
 }
 
 #[test]
-fn exits_behind_one_raise_are_told_one_traceback_of_its_line(rt: HostRuntime) -> Result<(), Fail> {
+fn each_body_that_an_exception_is_raised_in_puts_an_entry_in_front(rt: HostRuntime) -> Result<(), Fail> {
     let told = tracebacks_told(rt.alloc())?;
     assert_eq!(rt;
         told.as_slice(),
-        [(false, 9), (true, 9), (false, 15)].as_slice()
+        [(false, false, 9), (true, false, 9), (false, true, 15)].as_slice()
     );
     Ok(())
 }

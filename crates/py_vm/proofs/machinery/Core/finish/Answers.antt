@@ -1,8 +1,9 @@
-use Rattle.std.proofs.Common.{subst}
+use Rattle.std.proofs.Common.{subst, sym}
 use Rattle.std.proofs.lemmas.Result.{IfOk-weaker, on_err_weaker}
 use Rattle.py_vm.specs.declared.reply.Reply.{Reply as MadeReply}
-use Rattle.py_vm.specs.Turns.{Replies}
-use Rattle.py_vm.proofs.PartsLemmas.{call_finished, entered_runs, generator_finished, halts_trans, settled_halts, settled_replies}
+use Rattle.py_vm.specs.Turns.{FirstRaises, Replies}
+use Rattle.py_vm.proofs.PartsLemmas.{call_finished, entered_runs, generator_finished, halts_trans, settled_halts, settled_raises, settled_replies}
+use Rattle.py_vm.proofs.RaisingLemmas.{passed_raises}
 use Rattle.py_vm.proofs.machinery.Core.finish.Goals as goal
 
 pub settle-requires-clause-runs : goal.settle-requires-clause-runs
@@ -14,7 +15,26 @@ settle-requires-clause-generator c = (entered_runs c.args.self.now c.args.drive.
 pub reply-requires-in-Some-clause-classes : goal.reply-requires-in-Some-clause-classes
 reply-requires-in-Some-clause-classes c =
     (settled_replies c.args.self.now c.settle.new.self c.in-Some.generator c.args.left c.args.how c.in_ok-reply-in-Some.reply c.in_ok-reply-in-Some.ensures.ok
-    c.requires.done c.requires.can.0.classes).1
+    c.requires.done c.requires.can.0.classes c.requires.can.0.readable c.requires.can.3).classes
+
+pub reply-requires-in-Some-clause-readable : goal.reply-requires-in-Some-clause-readable
+reply-requires-in-Some-clause-readable c =
+    (settled_replies c.args.self.now c.settle.new.self c.in-Some.generator c.args.left c.args.how c.in_ok-reply-in-Some.reply c.in_ok-reply-in-Some.ensures.ok
+    c.requires.done c.requires.can.0.classes c.requires.can.0.readable c.requires.can.3).readable
+
+pub reply-requires-in-Some-clause-first : goal.reply-requires-in-Some-clause-first
+reply-requires-in-Some-clause-first c =
+    (settled_replies c.args.self.now c.settle.new.self c.in-Some.generator c.args.left c.args.how c.in_ok-reply-in-Some.reply c.in_ok-reply-in-Some.ensures.ok
+    c.requires.done c.requires.can.0.classes c.requires.can.0.readable c.requires.can.3).first
+
+pub reply-requires-in-Some-clause-raises : goal.reply-requires-in-Some-clause-raises
+reply-requires-in-Some-clause-raises c =
+    settled_raises c.args.self.now c.settle.new.self c.in-Some.generator c.args.left c.args.how c.in_ok-reply-in-Some.reply c.in_ok-reply-in-Some.ensures.ok c.requires.can.0.readable c.requires.can.4
+
+pub reply-requires-clause-raises : goal.reply-requires-clause-raises
+reply-requires-clause-raises c =
+    subst (FirstRaises c.args.self.now.world.store c.args.self.now.events c.args.self.now.callers) (sym c.passed.ensures)
+    (passed_raises c.args.self.now.world.store c.args.self.now.events c.args.self.now.callers c.args.how c.requires.can.1 c.requires.can.4)
 
 pub returns-in-None-clause-ok : goal.returns-in-None-clause-ok
 returns-in-None-clause-ok c =

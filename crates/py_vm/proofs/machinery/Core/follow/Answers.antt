@@ -8,7 +8,13 @@ pub reply-requires-clause-there : goal.reply-requires-clause-there
 reply-requires-clause-there c = (rw c.in-Says.is at c.requires.can).1
 
 pub reply-requires-clause-first : goal.reply-requires-clause-first
-reply-requires-clause-first c = (rw c.in-Says.is at c.requires.can).2
+reply-requires-clause-first c = (rw c.in-Says.is at c.requires.can).3
+
+pub reply-requires-clause-readable : goal.reply-requires-clause-readable
+reply-requires-clause-readable c = (rw c.in-Says.is at c.requires.can).2
+
+pub reply-requires-clause-raises : goal.reply-requires-clause-raises
+reply-requires-clause-raises c = (rw c.in-Says.is at c.requires.can).4
 
 pub returns-in-Says-clause-ok : goal.returns-in-Says-clause-ok
 returns-in-Says-clause-ok c = rw c.in-Says.is c.reply.ensures.ok

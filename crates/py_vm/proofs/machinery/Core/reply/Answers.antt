@@ -1,5 +1,8 @@
 use Rattle.py_frame.proofs.RunningLemmas.{erred}
+use Rattle.py_objects.proofs.GrownLemmas.{grown_longer, objects_grow}
 use Rattle.py_vm.specs.declared.machinery.Core.{Core}
+use Rattle.py_vm.proofs.JournalLemmas.{readable_on}
+use Rattle.py_vm.proofs.RaisingLemmas.{traceable_grown}
 use Rattle.py_vm.proofs.LeavingLemmas.{caller_replied}
 use Rattle.py_vm.proofs.PartsLemmas.{halted_on, halts_trans, noted_halts}
 use Rattle.py_vm.proofs.machinery.Core.reply.Goals as goal
@@ -7,8 +10,19 @@ use Rattle.py_vm.proofs.machinery.Core.reply.Goals as goal
 pub note-requires-clause-asked : goal.note-requires-clause-asked
 note-requires-clause-asked c = (rw c.in-Some.ensures at c.requires.first).0
 
-pub note-requires-clause-can : goal.note-requires-clause-can
-note-requires-clause-can c = (rw c.in-Some.ensures at c.requires.first).1
+pub note-requires-clause-traceable : goal.note-requires-clause-traceable
+note-requires-clause-traceable c =
+    let m : Core = c.args.self.now in
+    traceable_grown m.world.codes m.world.store.made c.answer.new.store.made c.in-Some.halted.running (objects_grow m.world.store c.answer.new.store c.in_ok-answer-in-Some.ensures.grows) (rw c.in-Some.ensures at c.requires.first).1
+
+pub note-requires-clause-readable : goal.note-requires-clause-readable
+note-requires-clause-readable c =
+    let m : Core = c.args.self.now in
+    readable_on m.world.store c.answer.new.store (grown_longer m.world.store c.answer.new.store c.in_ok-answer-in-Some.ensures.grows) c.requires.readable
+
+pub note-requires-clause-raises : goal.note-requires-clause-raises
+note-requires-clause-raises c =
+    (rw c.in-Some.ensures at c.requires.raises) c.answer.new.store c.in_ok-answer-in-Some.answer (c.in_ok-answer-in-Some.ensures.grows, c.in_ok-answer-in-Some.ensures.value, c.in_ok-answer-in-Some.ensures.given)
 
 pub returns-in_ok-got-in-Some-clause-ok : goal.returns-in_ok-got-in-Some-clause-ok
 returns-in_ok-got-in-Some-clause-ok c =
