@@ -1,12 +1,12 @@
 -- A store worked by hand: three exceptions without links, and two entries of a traceback.
-use Rattle.std.specs.Prelude.{Some, None, List, [], ◌∷◌, ◌≡◌}
+use Rattle.std.specs.Prelude.{ℕ, Option, Some, None, List, [], ◌∷◌, ◌≡◌}
 use Rattle.py_objects.specs.declared.refs.PyBaseExceptionRef.{PyBaseExceptionRef}
 use Rattle.py_objects.specs.declared.refs.PyTracebackRef.{PyTracebackRef}
 use Rattle.py_objects.specs.declared.payload.Payload.{Payload}
 use Rattle.py_objects.specs.declared.payload.Payload.TheVariants as payload
 use Rattle.py_objects.specs.declared.payload.ExceptionBody.{ExceptionBody}
 use Rattle.py_objects.specs.declared.payload.TracebackBody.{TracebackBody}
-use Rattle.py_objects.specs.Objects.{HasPayload, as_object, IsTraceback}
+use Rattle.py_objects.specs.Objects.{Obj, HasPayload, as_object, IsTraceback}
 use Rattle.py_objects.specs.Refs.{object_of_traceback}
 use Rattle.py_objects.specs.Values.{new_exception}
 use Rattle.py_objects.specs.Edits.{Kept}
@@ -16,12 +16,16 @@ use Rattle.crate_tests.specs.Exit.{object, base_class}
 abbrev pub bare_body : ExceptionBody
 bare_body = new_exception (record { number = 1 }) (object 2)
 
+-- an entry of a traceback in the frame
+abbrev pub entry_body : Option Obj → (lasti lineno : ℕ) → TracebackBody
+entry_body next lasti lineno = record { next = next; frame = record { number = 6 }; lasti = lasti; lineno = lineno }
+
 -- the entries: the last one, and the one that leads on to it
 abbrev pub last_entry : TracebackBody
-last_entry = record { next = None; frame = record { number = 6 }; lasti = 3; lineno = 5 }
+last_entry = entry_body None 3 5
 
 abbrev pub first_entry : TracebackBody
-first_entry = record { next = Some (object 7); frame = record { number = 6 }; lasti = 4; lineno = 8 }
+first_entry = entry_body (Some (object 7)) 4 8
 
 -- its objects: the last one is another tuple of arguments
 abbrev pub linked_objects : List Payload

@@ -2,7 +2,7 @@
 
 ghost use Rattle.std.specs.Prelude.{◌≡◌, ◌≤◌, IfOk, OnErr, OnOk};
 ghost use Rattle.py_objects.specs.declared.payload.Payload.TheVariants.{Exception, Traceback as TracebackPayload};
-ghost use Rattle.crate_tests.specs.Linked.{bare_body, AreLinked, IsFresh, IsNew, IsOneOfThree, IsOneOfTwo};
+ghost use Rattle.crate_tests.specs.Linked.{bare_body, entry_body, AreLinked, IsFresh, IsNew, IsOneOfThree, IsOneOfTwo};
 
 use crate::made::{class, exception};
 use py_code::{NoMemory, PyText, same_text, text_of};
@@ -40,7 +40,7 @@ fn bare(alloc: Global) -> Result<Payload, NoMemory>
 
 /// An entry of a traceback in the frame.
 fn entry(next: Option<PyObjectRef>, lasti: u32, lineno: u32) -> Payload
-    ensures { result ≡ TracebackPayload (record { next = next; frame = record { number = 6 }; lasti = lasti; lineno = lineno }) }
+    ensures { result ≡ TracebackPayload (entry_body next lasti lineno) }
 {
     Payload::Traceback(TracebackBody {
         next,
@@ -255,6 +255,7 @@ fn reduction(alloc: Global, store: &mut Store) -> Result<String, NoMemory>
 #[test]
 fn an_exception_is_reduced_to_its_class_and_its_arguments(rt: HostRuntime) -> Result<(), NoMemory> {
     let mut store = fresh_store(rt.alloc())?;
+    assert!(rt; FIRST.is_reducible(&store)?);
     let text = reduction(rt.alloc(), &mut store)?;
     assert_eq!(rt; text.as_str(), "(<class 'BaseException'>, ())");
     Ok(())

@@ -11,7 +11,7 @@ use py_objects::{
     AttrMap, Boxed, ExceptionBody, FrameRef, ObjList, Payload, PyBaseExceptionRef, PyObjectRef,
     PyTypeRef, Store, TracebackBody,
 };
-use py_reports::{Place, Places, Report, ReportStep, Source, Sources, part_of, write_report};
+use py_reports::{Place, Places, Report, ReportStep, Scene, Source, Sources, part_of, report_of};
 use std::alloc::Global;
 
 fn object(number: u64) -> PyObjectRef
@@ -159,15 +159,9 @@ fn a_report_begins_with_the_cause(rt: HostRuntime) -> Result<(), NoMemory> {
     let alloc = rt.alloc();
     let store = reported(alloc)?;
     let texts = no_texts(alloc);
-    let text = write_report(
-        alloc,
-        &store,
-        &texts.names,
-        &texts.places,
-        &texts.sources,
-        PyBaseExceptionRef { number: 7 },
-    )?;
-    assert!(rt; text.as_str() == CAUSED);
+    let scene = Scene::new(&store, &texts.names, &texts.places, &texts.sources);
+    let text = report_of(alloc, &scene, PyBaseExceptionRef { number: 7 })?;
+    assert!(rt; same_text(&text, &text_of(alloc, CAUSED.as_bytes())?));
     Ok(())
 }
 
@@ -252,14 +246,8 @@ fn add_errors(alloc: Global, store: &mut Store) -> Result<(), NoMemory>
 /// Whether this is printed of an exception alone.
 fn is_part(alloc: Global, store: &Store, number: u64, wanted: &[u8]) -> Result<bool, NoMemory> {
     let texts = no_texts(alloc);
-    let part = part_of(
-        alloc,
-        store,
-        &texts.names,
-        &texts.places,
-        &texts.sources,
-        PyBaseExceptionRef { number },
-    )?;
+    let scene = Scene::new(store, &texts.names, &texts.places, &texts.sources);
+    let part = part_of(alloc, &scene, PyBaseExceptionRef { number })?;
     Ok(same_text(&part, &text_of(alloc, wanted)?))
 }
 

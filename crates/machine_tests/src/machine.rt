@@ -5,6 +5,7 @@ ghost use Rattle.py_objects.specs.declared.payload.Payload.TheVariants.{Class};
 
 use py_code::{Names, NoMemory, PyText, text_of};
 use py_objects::{Boxed, ClassBody, DriveAnswer, ObjList, PairList, Payload, PyObjectRef};
+use py_reports::Sources;
 use py_vm::{Drive, PyGlobalState, PyResult, VirtualMachine, VmFault};
 use std::alloc::Global;
 use std::test::Fail;
@@ -68,7 +69,7 @@ fn call(alloc: Global, vm: &mut VirtualMachine, callee: PyObjectRef, turns: u64)
         return Outcome::NoMemory;
     }
     let drive = Drive::Call(callee, ObjList::new(alloc));
-    Outcome::from(vm.drive(&drive, turns))
+    Outcome::from(vm.drive(&drive, &Sources::new(alloc), turns))
 }
 
 /// What the call of None comes to in so many turns.

@@ -1,6 +1,7 @@
 -- What drives ask stays so as more events come, and is put behind what earlier drives ask.
 use Rattle.std.proofs.Common.{◌≡◌, ◌++◌, ℕ, List, [], ◌∷◌, Some, None, length, arith}
 use Rattle.std.specs.Prelude.{Option}
+use Rattle.py_objects.specs.declared.refs.PyBaseExceptionRef.{PyBaseExceptionRef}
 use Rattle.py_objects.specs.declared.payload.Payload.{Payload}
 use Rattle.py_objects.specs.declared.request.Request.{Request}
 use Rattle.py_objects.specs.declared.event.Event.{Event}
@@ -11,8 +12,8 @@ use Rattle.py_lines.specs.declared.drive.DriveAtom.{DriveAtom}
 use Rattle.py_lines.specs.declared.drive.DriveAtom.TheVariants as atom
 use Rattle.py_lines.specs.declared.drive.DriveLine.{DriveLine}
 use Rattle.py_lines.specs.declared.drive.DriveLine.TheVariants as drive
-use Rattle.py_run.specs.Run.{Pose, Requests, Forms, Posed}
-use Rattle.py_meaning.specs.Whole.{IsLeftBy, IsOf, IsThrown, AreOf, AsksThis, Poses, AreAsked}
+use Rattle.py_run.specs.Run.{Pose, Requests, Forms, Reports, Posed}
+use Rattle.py_meaning.specs.Whole.{IsLeftBy, IsOf, IsThrown, AreOf, AsksThis, ReportsThis, Poses, AreAsked}
 
 module _ (objects : List Payload) (es more : List Event) where
   -- what an earlier drive left is left still
@@ -42,11 +43,22 @@ module _ (objects : List Payload) (es more : List Event) where
   asks_this (drive.Throw n x a) r (g, c, v, is, left, named, are) =
       (g, c, v, is, left_by n g left, named, thrown a v are)
   asks_this (drive.Close n) r (g, is, left) = (g, is, left_by n g left)
+  asks_this (drive.Report n) r asks = asks
+
+  -- what it has reported is the same
+  reports_this : (d : DriveLine) (e : Option PyBaseExceptionRef) → ReportsThis es d e → ReportsThis (es ++ more) d e
+  reports_this (drive.Report n) e (i, w, here, is) = (i, w, slice_get_grown es more i (event.Result n w) here, is)
+  reports_this (drive.Call x args) e reports = reports
+  reports_this (drive.Next n) e reports = reports
+  reports_this (drive.Send n a) e reports = reports
+  reports_this (drive.Throw n x a) e reports = reports
+  reports_this (drive.Close n) e reports = reports
 
   -- and poses the same
   poses : (d : DriveLine) (x : Pose) → Poses objects es d x → Poses objects (es ++ more) d x
   poses d (Requests r) asks = asks_this d r asks
   poses d (Forms x) asks = asks
+  poses d (Reports e) reports = reports_this d e reports
 
   -- the questions of drives stay theirs as more events come
   pub asked_on : (ds : List DriveLine) (qs : List Posed) → AreAsked objects es ds qs

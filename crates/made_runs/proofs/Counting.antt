@@ -280,7 +280,7 @@ module _ (asked : List Posed) (more : List Payload) (es : List Event) (d : ℕ) 
           (refl, refl),
           (
             (refl, (one, (sum, refl, inl (one, refl, added)), refl)),
-            ((refl, refl), ((refl, refl, (Closes, inl (close n, ap requested_by is3, due), refl)), tt)),
+            ((refl, refl), ((refl, refl, inl (Closes, inl (close n, ap requested_by is3, due), refl)), tt)),
           ),
         ),
       )
@@ -325,11 +325,11 @@ module _ (asked : List Posed) (more : List Payload) (es : List Event) (d : ℕ) 
       let tested : List Event = on behind (asks a test None true_object []) in
       let yielding : Come asked more (in_body tested (suc d) a made running) yielded = (
         (refl, refl),
-        ((refl, refl, (Yielding zero_object, inl (next n, ap requested_by is2, due), refl)), ((refl, refl, few), k)),
+        ((refl, refl, inl (Yielding zero_object, inl (next n, ap requested_by is2, due), refl)), ((refl, refl, few), k)),
       ) in
       let testing : Come asked more (in_body behind (suc d) a made running) tests =
       truth_comes asked more behind (suc d) made running a true None yielded yielding in (
-        (refl, refl, (Creates body, inl (calls count_object x, ap requested_by is, made_it), (new, entry))),
+        (refl, refl, inl (Creates body, inl (calls count_object x, ap requested_by is, made_it), (new, entry))),
         (
           (refl, refl, omega (arith, few)),
           (

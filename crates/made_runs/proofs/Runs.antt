@@ -1,23 +1,32 @@
 -- Each text that is made is a script that has a whole run, whose journal is put together here.
-use Rattle.std.proofs.Common.{◌≡◌, ◌+◌, ◌*◌, ◌%◌, ◌^◌, ◌<◌, ◌≤◌, ◌++◌, ℕ, List, [], Some, length, length-append, refl, sym, ap, subst, ◌∙◌}
+use Rattle.std.proofs.Common.{◌≡◌, ◌+◌, ◌*◌, ◌%◌, ◌^◌, ◌<◌, ◌≤◌, ◌++◌, ℕ, zero, suc, Bool, true, false, List, [], Some, length, length-append, refl, sym, ap, subst, ◌∙◌}
 use Rattle.std.proofs.Common.{arith}
-use Rattle.std.specs.Prelude.{slice_get}
+use Rattle.std.specs.Prelude.{slice_get, chars, encode_utf8_all, ◌==◌}
+use Rattle.std.specs.List.{list_all}
+use Rattle.std.proofs.lemmas.Str.{encodes-chars}
 use Rattle.py_objects.specs.declared.payload.Payload.{Payload}
 use Rattle.py_objects.specs.declared.event.Event.{Event}
 use Rattle.py_objects.specs.FrameEntries.{frames_from, frames_in}
 use Rattle.py_objects.specs.Objects.{event_numbers, AllBelow, AreNamed}
 use Rattle.py_objects.proofs.GrowthLemmas.{slice_get_behind}
 use Rattle.py_lines.specs.declared.drive.DriveLine.{DriveLine}
-use Rattle.py_grammar.specs.Grammar.{Decl}
+use Rattle.py_lines.proofs.Utf8.{line_is_utf8}
+use Rattle.py_grammar.specs.declared.script.Script.{Script}
+use Rattle.py_grammar.specs.Grammar.{Decl, codes_in}
 use Rattle.py_grammar.specs.Lines.{lines}
-use Rattle.py_grammar.specs.Script.{Text, Spells}
-use Rattle.py_make.specs.Made.{made_text}
-use Rattle.py_make.proofs.ScriptLemmas.{drives_from}
+use Rattle.py_grammar.specs.Script.{Spells, IsReadScript, IsScript, decls_of}
+use Rattle.py_grammar.proofs.Texts.{script_is_utf8}
+use Rattle.py_reports.specs.Scenes.{SourceLines}
+use Rattle.py_make.specs.Made.{drawn, drives_of, made_text, most_groups, next_state}
+use Rattle.py_make.proofs.ScriptLemmas.{drives_by, drives_from}
 use Rattle.py_run.specs.Run.{Posed, State}
 use Rattle.py_run.specs.Coming.{IsDone}
 use Rattle.py_run.specs.declared.journal.Journal.{Journal}
-use Rattle.py_meaning.specs.Core.{IsCore}
-use Rattle.py_meaning.specs.Whole.{IsRunOf, IsJournalOf}
+use Rattle.py_run.proofs.ReportsLemmas.{plainly_reported}
+use Rattle.py_meaning.specs.Core.{is_core, is_plain}
+use Rattle.py_meaning.specs.Reported.{origins_of, sources_of}
+use Rattle.py_meaning.proofs.CoreLemmas.{plain_asked}
+use Rattle.py_meaning.specs.Whole.{IsRunOf, IsJournalOf, plan_of}
 use Rattle.made_runs.specs.Runs.{AreCore, HaveRuns, most_events_of_a_group}
 use Rattle.made_runs.proofs.Lists.{Each, each_at, each_both}
 use Rattle.made_runs.proofs.Blocks.{Names, names_wider}
@@ -29,6 +38,17 @@ use Rattle.made_runs.proofs.Reaching.{objects_from, asked_from, objects_many, ob
 use Rattle.made_runs.proofs.Reaching.{AreFramed, frames_made, reaches, none}
 use Rattle.made_runs.proofs.Frames.{behind_frameless, frame_at, frames_more, made_frames, numbers_frameless, objects_frameless}
 use Rattle.made_runs.proofs.Located.{located}
+
+-- none of the drives has anything reported
+plain_group : (x : Bool) (v n : ℕ) (more : List DriveLine) → list_all is_plain more ≡ true → list_all is_plain (drives_by x v n ++ more) ≡ true
+plain_group true v n more plain = plain
+plain_group false v n more plain = plain
+
+plain_drives : (count s n : ℕ) → list_all is_plain (drives_from count s n) ≡ true
+plain_drives zero s n = refl
+plain_drives (suc more) s n =
+    let r : ℕ = drawn (next_state s) in
+    plain_group (r % 2 == 0) (r % 1000) n (drives_from more (next_state s) (n + drives_of r)) (plain_drives more (next_state s) (n + drives_of r))
 
 module _ (count s : ℕ) where
   -- the first frame has this number
@@ -146,36 +166,42 @@ module _ (count s : ℕ) where
     codes = located;
   }
 
-  -- in it the exceptions that work raises get entries of tracebacks
-  is_journal : IsJournalOf decls (drives_from count s 1) journal
+  -- in it the exceptions that work raises get entries of tracebacks, and nothing is reported
+  is_journal : (sources : List SourceLines) → IsJournalOf decls (drives_from count s 1) sources journal
   unfolding is_run
-  is_journal = record { run = is_run; links = record { come = run.ended.links; alone = run.ended.alone } }
+  is_journal sources = record {
+    run = is_run;
+    links = record { come = run.ended.links; alone = run.ended.alone };
+    reports = plainly_reported (plan_of (codes_in decls) asked) (origins_of (codes_in decls) sources) (store behind) run.changes [] run.events
+        (plain_asked (store behind) run.events (drives_from count s 1) asked (plain_drives count s 1) run.ended.asks);
+  }
+
+-- the script that a text is, with its characters
+made_script : (seed count : ℕ) → count ≤ most_groups → (s : Script) × (decls_of s ≡ decls) × (s.drives ≡ drives_from count (seed % 2 ^ 32) 1) × IsReadScript (made_text seed count) s
+made_script seed count low =
+    let bytes : List ℕ = made_text seed count in
+    let (script, declares, drives, text) = script_of (chars bytes) (drives_from count (seed % 2 ^ 32) 1) in
+    let spells : IsScript bytes script =
+    subst (λ (l : List Decl). Spells (lines bytes) l script.drives) (sym declares) (subst (Spells (lines bytes) decls) (sym drives) (spelled seed count low)) in
+    (script, declares, drives, (spells, ap encode_utf8_all text ∙ encodes-chars bytes (script_is_utf8 line_is_utf8 bytes script spells)))
 
 -- each text that is made has a whole run
 pub have_runs : HaveRuns
 have_runs seed count low =
     let s : ℕ = seed % 2 ^ 32 in
-    let text : Text = lines (made_text seed count) in
     let j : Journal = journal count s in
-    let (script, declares, drives) = script_of (drives_from count s 1) in (
+    let (script, declares, drives, reads) = made_script seed count low in (
       script,
       j,
-      subst (λ (l : List Decl). Spells text l script.drives) (sym declares)
-          (subst (Spells text decls) (sym drives) (spelled seed count low)),
-      subst (λ (l : List Decl). IsJournalOf l script.drives j) (sym declares)
-          (subst (λ (l : List DriveLine). IsJournalOf decls l j) (sym drives) (is_journal count s)),
+      reads,
+      subst (λ (l : List Decl). IsJournalOf l script.drives (sources_of script.text) j) (sym declares)
+          (subst (λ (l : List DriveLine). IsJournalOf decls l (sources_of script.text) j) (sym drives) (is_journal count s (sources_of script.text))),
       subst (λ (l : List DriveLine). IsDone (length l) j.events) (sym drives) (is_done count s),
       (let short = (run count s).short in omega (arith, short)),
     )
 
--- and no raw code
+-- and neither a raw code nor a report
 pub are_core : AreCore
 are_core seed count low =
-    let s : ℕ = seed % 2 ^ 32 in
-    let text : Text = lines (made_text seed count) in
-    let (script, declares, drives) = script_of (drives_from count s 1) in (
-      script,
-      subst (λ (l : List Decl). Spells text l script.drives) (sym declares)
-          (subst (Spells text decls) (sym drives) (spelled seed count low)),
-      subst IsCore (sym declares) refl,
-    )
+    let (script, declares, drives, reads) = made_script seed count low in
+    (script, reads.0, record { declares = subst (λ (l : List Decl). list_all is_core l ≡ true) (sym declares) refl; drives_plainly = subst (λ (l : List DriveLine). list_all is_plain l ≡ true) (sym drives) (plain_drives count (seed % 2 ^ 32) 1) })

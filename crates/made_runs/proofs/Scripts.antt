@@ -1,4 +1,5 @@
 -- The declarations of made scripts as the program has them, so that there is a script that has them.
+use Rattle.py_objects.specs.Objects.{Name}
 use Rattle.std.proofs.Common.{◌≡◌, ◌<◌, ◌^◌, ℕ, List, [], ◌∷◌, Some, None, length, refl, lit<, arith, true, Global}
 use Rattle.std.specs.Prelude.{Vec, codes, pos}
 use denote.RawPtr.{null_ptr}
@@ -144,6 +145,6 @@ declarations =
     Class (codes "Fault") (codes "Exception") ∷ Function enters ∷ Function exits
     ∷ Manager (codes "scope") (codes "enter") (codes "exit") ∷ Function works ∷ Function counts ∷ []
 
--- there is a script that has them, and any drives
-pub script_of : (ds : List DriveLine) → (s : Script) × (decls_of s ≡ decls) × (s.drives ≡ ds)
-script_of ds = (record { text = []; declarations = declarations; drives = ds }, refl, refl)
+-- there is a script that has them, and any text and drives
+pub script_of : (text : Name) (ds : List DriveLine) → (s : Script) × (decls_of s ≡ decls) × (s.drives ≡ ds) × (s.text ≡ text)
+script_of text ds = (record { text = text; declarations = declarations; drives = ds }, refl, refl, refl)

@@ -266,7 +266,7 @@ module _ (asked : List Posed) (more : List Payload) where
       → IsAsked d (calls work_object x)
       → Come (in_body es d a ms gs) (returns (suc d) a v)
   returns_comes es d ms gs a x v is =
-      ((refl, refl), ((refl, refl, (Is v, inl (calls work_object x, ap requested_by is, (refl, refl)), refl)), tt))
+      ((refl, refl), ((refl, refl, inl (Is v, inl (calls work_object x, ap requested_by is, (refl, refl)), refl)), tt))
 
 -- ---- they name objects below n
 

@@ -17,7 +17,7 @@ use Rattle.py_objects.specs.Objects.{Obj}
 use Rattle.py_objects.specs.Own.{whose}
 use Rattle.py_coro.specs.declared.coro.CoroEnd.{CoroEnd}
 use Rattle.py_answers.specs.Answers.{Reply, Creates, IsRaise, GivesValue, GivesBody, GivesDrive}
-use Rattle.py_run.specs.Run.{Plan, Phase, Idle, Asking, Going, Made, Due, IsTop, question, forming}
+use Rattle.py_run.specs.Run.{Plan, Phase, Idle, Asking, Going, Made, Due, IsTop, question, forming, reporting}
 use Rattle.py_run.specs.Generators.{value_of, returned_by, generators_after}
 use Rattle.py_run.specs.Calls.{Course, Says, Enters, Begins, Sends, Throws, ComesTo, IsDue}
 use Rattle.py_run.specs.Coming.{Past, setting, IsOfKind, MakesGenerator, IsReply, IsAnswered, MayCome}
@@ -61,8 +61,9 @@ module _ (plan : Plan) (objects : List Payload) where
   -- where nothing is open a drive comes
   pub idle_next : (p : Past) (e : Event) → MayCome plan objects (at_phase p Idle) e → (d : ℕ) × (e ≡ event.Drive d) × (d ≡ suc p.state.done)
   idle_next p (event.Drive d) (idle, next, more) = (d, refl, next)
-  idle_next p (event.Result d w) (next, alone, (reply, inl (r, open_, is), gives)) = absurd is
-  idle_next p (event.Result d w) (next, alone, (reply, inr (asks, formed), gives)) = absurd (cc asks)
+  idle_next p (event.Result d w) (next, alone, inl (reply, inl (r, open_, is), gives)) = absurd is
+  idle_next p (event.Result d w) (next, alone, inl (reply, inr (asks, formed), gives)) = absurd (cc asks)
+  idle_next p (event.Result d w) (next, alone, inr (asks, reported)) = absurd (cc asks)
   idle_next p (event.Make a f vs) (next, (asks, opens)) = absurd (cc asks)
   idle_next p (event.Resume a how.Start) starts = absurd starts
   idle_next p (event.Resume a (how.Send v)) (asks, opens) = absurd (cc asks)
@@ -73,12 +74,17 @@ module _ (plan : Plan) (objects : List Payload) where
   idle_next p (event.Yield a v at) (goes, top) = absurd (cc goes)
   idle_next p (event.End a e at) (goes, top) = absurd (cc goes)
 
-  -- where a question is open, and no exception is made of anything, what it comes to
-  pub asking_next : (p : Past) (e : Event) → forming plan p.state ≡ None → MayCome plan objects (at_phase p Asking) e
+  -- the drive that runs requests something: it has no exception made of anything, and none reported
+  abbrev pub Requesting : Past → Type 0
+  Requesting p = (forming plan p.state ≡ None) × (reporting plan p.state ≡ None)
+
+  -- where a question is open, what it comes to
+  pub asking_next : (p : Past) (e : Event) → Requesting p → MayCome plan objects (at_phase p Asking) e
       → (r : Request) × (c : Course) × (question plan p.state ≡ Some r) × ComesTo (setting plan p) objects r c × IsCourse p c e
   asking_next p (event.Drive d) none (idle, next, more) = absurd (cc idle)
-  asking_next p (event.Result d w) none (next, alone, (reply, inl (r, open_, is), gives)) = (r, Says reply, open_, is, (next, alone, gives))
-  asking_next p (event.Result d w) none (next, alone, (reply, inr (asks, (x, forms, is)), gives)) = absurd (let clash : None ≡ Some x = sym none ∙ forms in cc clash)
+  asking_next p (event.Result d w) none (next, alone, inl (reply, inl (r, open_, is), gives)) = (r, Says reply, open_, is, (next, alone, gives))
+  asking_next p (event.Result d w) none (next, alone, inl (reply, inr (asks, (x, forms, is)), gives)) = absurd (let clash : None ≡ Some x = sym none.0 ∙ forms in cc clash)
+  asking_next p (event.Result d w) none (next, alone, inr (asks, (e, reports, is))) = absurd (let clash : None ≡ Some e = sym none.1 ∙ reports in cc clash)
   asking_next p (event.Make a f vs) none (next, (asks, (r, open_, comes))) = (r, Enters f vs, open_, comes, ap (λ n. event.Make n f vs) next)
   asking_next p (event.Resume a how.Start) none (asks, (r, open_, comes)) = (r, Begins a, open_, comes, refl)
   asking_next p (event.Resume a (how.Send v)) none (asks, (r, open_, comes)) = (r, Sends a v, open_, comes, refl)
@@ -92,8 +98,9 @@ module _ (plan : Plan) (objects : List Payload) where
   -- where an activation goes on, what it tells
   pub going_next : (p : Past) (e : Event) → MayCome plan objects (at_phase p Going) e → IsTold p e
   going_next p (event.Drive d) (idle, next, more) = absurd (cc idle)
-  going_next p (event.Result d w) (next, alone, (reply, inl (r, open_, is), gives)) = absurd is
-  going_next p (event.Result d w) (next, alone, (reply, inr (asks, formed), gives)) = absurd (cc asks)
+  going_next p (event.Result d w) (next, alone, inl (reply, inl (r, open_, is), gives)) = absurd is
+  going_next p (event.Result d w) (next, alone, inl (reply, inr (asks, formed), gives)) = absurd (cc asks)
+  going_next p (event.Result d w) (next, alone, inr (asks, reported)) = absurd (cc asks)
   going_next p (event.Make a f vs) (next, (asks, opens)) = absurd (cc asks)
   going_next p (event.Resume a how.Start) starts = absurd starts
   going_next p (event.Resume a (how.Send v)) (asks, opens) = absurd (cc asks)
@@ -109,8 +116,9 @@ module _ (plan : Plan) (objects : List Payload) where
       → ((e ≡ event.Resume (length p.state.made) how.Start) × IsOfKind plan objects f None)
       ⊎ ((reply : Reply) × MakesGenerator plan objects f (length p.state.made) reply × IsAnswer p reply e)
   made_next p f (event.Drive d) (idle, next, more) = absurd (cc idle)
-  made_next p f (event.Result d w) (next, alone, (reply, inl (r, open_, is), gives)) = inr (reply, is, (next, alone, gives))
-  made_next p f (event.Result d w) (next, alone, (reply, inr (asks, formed), gives)) = absurd (cc asks)
+  made_next p f (event.Result d w) (next, alone, inl (reply, inl (r, open_, is), gives)) = inr (reply, is, (next, alone, gives))
+  made_next p f (event.Result d w) (next, alone, inl (reply, inr (asks, formed), gives)) = absurd (cc asks)
+  made_next p f (event.Result d w) (next, alone, inr (asks, reported)) = absurd (cc asks)
   made_next p f (event.Make a g vs) (next, (asks, opens)) = absurd (cc asks)
   made_next p f (event.Resume a how.Start) (last, kind) = inl (ap (λ n. event.Resume n how.Start) last, kind)
   made_next p f (event.Resume a (how.Send v)) (asks, opens) = absurd (cc asks)
@@ -125,8 +133,9 @@ module _ (plan : Plan) (objects : List Payload) where
   pub due_next : (p : Past) (left : CoroEnd) (e : Event) → MayCome plan objects (at_phase p (Due left)) e
       → (r : Request) × (reply : Reply) × (question plan p.state ≡ Some r) × IsDue objects r left reply × IsAnswer p reply e
   due_next p left (event.Drive d) (idle, next, more) = absurd (cc idle)
-  due_next p left (event.Result d w) (next, alone, (reply, inl (r, open_, is), gives)) = (r, reply, open_, is, (next, alone, gives))
-  due_next p left (event.Result d w) (next, alone, (reply, inr (asks, formed), gives)) = absurd (cc asks)
+  due_next p left (event.Result d w) (next, alone, inl (reply, inl (r, open_, is), gives)) = (r, reply, open_, is, (next, alone, gives))
+  due_next p left (event.Result d w) (next, alone, inl (reply, inr (asks, formed), gives)) = absurd (cc asks)
+  due_next p left (event.Result d w) (next, alone, inr (asks, reported)) = absurd (cc asks)
   due_next p left (event.Make a g vs) (next, (asks, opens)) = absurd (cc asks)
   due_next p left (event.Resume a how.Start) starts = absurd starts
   due_next p left (event.Resume a (how.Send v)) (asks, opens) = absurd (cc asks)
@@ -162,9 +171,11 @@ module _ (plan : Plan) (objects : List Payload) where
   -- so none stands for the generators behind an event
   pub plain_next : (p : Past) (e : Event) → MayCome plan objects p e → ArePlain objects p.generators → ArePlain objects (generators_after plan p.state p.generators e)
   plain_next p (event.Drive d) may plain = plain
-  plain_next p (event.Result d w) (next, alone, (reply, inr (asks, formed), gives)) plain =
+  plain_next p (event.Result d w) (next, alone, inl (reply, inr (asks, formed), gives)) plain =
       answered_plain objects (question plan p.state) p.state.phase (length p.state.made) (returned_by w) p.generators (λ f v made there. absurd (let clash = sym asks ∙ made in cc clash)) plain
-  plain_next p (event.Result d w) (next, alone, (reply, inl is, gives)) plain =
+  plain_next p (event.Result d w) (next, alone, inr (asks, reported)) plain =
+      answered_plain objects (question plan p.state) p.state.phase (length p.state.made) (returned_by w) p.generators (λ f v made there. absurd (let clash = sym asks ∙ made in cc clash)) plain
+  plain_next p (event.Result d w) (next, alone, inl (reply, inl is, gives)) plain =
       answered_plain objects (question plan p.state) p.state.phase (length p.state.made) (returned_by w) p.generators
       (λ f v made there. let (b, same) = created_reply p reply f made is in drive_plain p reply b w v same gives there) plain
   plain_next p (event.Make a f vs) may plain = plain

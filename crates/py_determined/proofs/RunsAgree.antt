@@ -6,7 +6,7 @@ use Rattle.py_objects.specs.declared.event.Event.{Event}
 use Rattle.py_objects.specs.declared.event.Event.TheVariants as event
 use Rattle.py_objects.specs.Objects.{Obj}
 use Rattle.py_objects.specs.Own.{Own, whose, own_from, own_events}
-use Rattle.py_run.specs.Run.{Plan, Idle, Act, Activation, State, start, after, state_after, IsTop, question, forming}
+use Rattle.py_run.specs.Run.{Plan, Idle, Act, Activation, State, start, after, state_after, IsTop, question}
 use Rattle.py_run.specs.Generators.{generators_after}
 use Rattle.py_determined.specs.Raises.{raises_after, raises_of, TellsRaise, TellRaises}
 use Rattle.py_run.specs.Coming.{May, Past, nothing, past_after, setting, IsReply, MayCome, Comes, EachTells}
@@ -27,7 +27,7 @@ use Rattle.py_determined.proofs.Growing.{maybe_grows, event_grows, events_grow, 
 use Rattle.py_determined.proofs.StatesAgree.{tops_same, after_same, forms_none, question_same, setting_same, ArePlain, generators_same, raises_same}
 use Rattle.py_determined.proofs.Pairing.{pairs_on, pairs_end, pairs_related, event_same, no_more_alike, born_alike, new_left, new_right, pair_left, pair_right, related_on, related_either}
 use Rattle.py_determined.proofs.Telling.{IsPositive, positive_behind, top_positive, made_stays, both_found, told_behind, told_first, IsTelling, SameTelling, telling_same}
-use Rattle.py_determined.proofs.Phases.{at_phase, IsTold, told_top, idle_next, plain_next}
+use Rattle.py_determined.proofs.Phases.{at_phase, IsTold, Requesting, told_top, idle_next, plain_next}
 use Rattle.py_determined.proofs.Steps.{OrBoth, AreNext, phase_next}
 
 -- the same events, with one more behind them
@@ -179,8 +179,8 @@ module _ (plan plan' : Plan) (objects objects' : List Payload) (may may' : May) 
         | inr posed ↦ inr (setting_same (At p q) plan plan' p q script.signatures posed same.state same.generators, question_same (At p q) plan plan' p.state q.state posed same.state)
       ]
 
-      -- no exception is made of anything
-      no_forms : (p.state.phase ≡ Idle) ⊎ ((forming plan p.state ≡ None) × (forming plan' q.state ≡ None))
+      -- something is requested
+      no_forms : (p.state.phase ≡ Idle) ⊎ (Requesting plan objects p × Requesting plan' objects' q)
       no_forms = elim same.posed [
         | inl idle ↦ inl idle
         | inr posed ↦ inr (forms_none (At p q) (slice_get plan.asked p.state.done) (slice_get plan'.asked q.state.done) posed)

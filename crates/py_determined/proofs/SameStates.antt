@@ -7,7 +7,8 @@ use Rattle.py_determined.specs.Raises.{Raise}
 use Rattle.py_agreement.specs.Agreement.{Relation, SameMaybe, SameHandled, SameAll, has_literal}
 use Rattle.py_determined.specs.Sameness.{SameAsked, SameLeft}
 
--- what two drives pose: the same question. What an exception is made of is compared nowhere, since no script poses it
+-- what two drives pose: the same question. What an exception is made of is compared nowhere, since no script poses it, and so is what is reported, since
+-- no script that is compared has a report
 abbrev pub SamePose : Relation → Pose → Pose → Type 0
 SamePose S (Requests r) (Requests q) = SameAsked S r q
 SamePose S _ _ = ⊥

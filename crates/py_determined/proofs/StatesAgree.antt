@@ -23,7 +23,7 @@ use Rattle.py_coro.specs.declared.coro.CoroEnd.{CoroEnd}
 use Rattle.py_coro.specs.declared.coro.CoroEnd.TheVariants as left
 use Rattle.py_coro.specs.Modes.{Mode, Running}
 use Rattle.py_coro.specs.Leaving.{mode_behind}
-use Rattle.py_run.specs.Run.{Pose, Requests, Posed, Plan, Phase, Idle, Asking, Going, Made, Due, Act, Activation, State, after, IsTop, top_asks, left_by, requested, makings, makings_of, open_in, question, entered_in, depth, handled_among}
+use Rattle.py_run.specs.Run.{Pose, Requests, Posed, Plan, Phase, Idle, Asking, Going, Made, Due, Act, Activation, State, after, IsTop, top_asks, left_by, requested, makings, makings_of, to_report, to_report_by, open_in, question, entered_in, depth, handled_among}
 use Rattle.py_run.specs.Generators.{Generator, running_at, with_mode, unentered, closed_by, settled, created, answered, value_of, returned_by, generators_after}
 use Rattle.py_run.specs.Raises.{is_raising, raised_by}
 use Rattle.py_determined.specs.Raises.{Raise, raise_of, with_raise, with_traceback, told_by, raises_after}
@@ -94,14 +94,20 @@ module _ (S : Relation) where
   requested_same (Requests r) (Requests q) s = s
   requested_same _ _ s = absurd s
 
-  -- and have no exception made of anything
-  makings_none : (x y : Pose) → SamePose S x y → (makings x ≡ None) × (makings y ≡ None)
-  makings_none (Requests r) (Requests q) s = (refl, refl)
-  makings_none _ _ s = absurd s
+  -- and have no exception made of anything, and none reported
+  abbrev OnlyRequests : Option Posed → Type 0
+  OnlyRequests q = (makings_of q ≡ None) × (to_report_by q ≡ None)
 
-  pub forms_none : (q q' : Option Posed) → SameMaybe (SamePosed S) q q' → (makings_of q ≡ None) × (makings_of q' ≡ None)
-  forms_none None None s = (refl, refl)
-  forms_none (Some p) (Some q) s = makings_none p.pose q.pose s.pose
+  only_requests : (x y : Posed) → SamePose S x.pose y.pose → OnlyRequests (Some x) × OnlyRequests (Some y)
+  only_requests x y s = poses x.pose y.pose s
+    where
+      poses : (x y : Pose) → SamePose S x y → ((makings x ≡ None) × (to_report x ≡ None)) × ((makings y ≡ None) × (to_report y ≡ None))
+      poses (Requests r) (Requests q) s = ((refl, refl), (refl, refl))
+      poses _ _ s = absurd s
+
+  pub forms_none : (q q' : Option Posed) → SameMaybe (SamePosed S) q q' → OnlyRequests q × OnlyRequests q'
+  forms_none None None s = ((refl, refl), (refl, refl))
+  forms_none (Some p) (Some q) s = only_requests p q s.pose
   forms_none _ _ s = absurd s
 
   -- the innermost activation's question is the same

@@ -20,7 +20,7 @@ use Rattle.py_objects.specs.declared.event.Event.TheVariants as event
 use Rattle.py_objects.specs.Objects.{Obj, HasPayload, as_object, number_if}
 use Rattle.py_coro.specs.declared.coro.CoroEnd.{CoroEnd}
 use Rattle.py_answers.specs.Answers.{Reply, Has, Is, Makes, Creates, Fails, FailsFrom, Passes, Yields, Stops, Closes, GivesBody, GivesDrive, for_body}
-use Rattle.py_run.specs.Run.{Signature, Plan, Phase, Idle, Asking, Going, Made, Due, Act, IsTop, question, forming}
+use Rattle.py_run.specs.Run.{Signature, Plan, Phase, Idle, Asking, Going, Made, Due, Act, IsTop, question}
 use Rattle.py_determined.specs.Raises.{Raise, raise_of, raises_of, IsToldOf, Tells, TellsRaise}
 use Rattle.py_run.specs.Calls.{Course, Says, Enters, Begins, Sends, Throws}
 use Rattle.py_run.specs.Coming.{Past, setting, IsOfKind, MakesGenerator, MayCome}
@@ -37,7 +37,7 @@ use Rattle.py_determined.proofs.StatesAgree.{tops_same, made_count, raise_same, 
 use Rattle.py_determined.proofs.Pairing.{AreBorn, IsBare}
 use Rattle.py_determined.proofs.Births.{AreGiven, body_same, raise_given, value_given, raised_given, not_both, nor_both, traceback_given}
 use Rattle.py_determined.proofs.Telling.{SameTelling}
-use Rattle.py_determined.proofs.Phases.{at_phase, IsAnswer, IsCourse, IsTold, idle_next, asking_next, going_next, made_next, due_next}
+use Rattle.py_determined.proofs.Phases.{at_phase, IsAnswer, IsCourse, IsTold, Requesting, idle_next, asking_next, going_next, made_next, due_next}
 
 -- two objects are related, or both are these
 abbrev pub OrBoth : Relation → Obj → Obj → Obj → Obj → Type 0
@@ -245,7 +245,7 @@ module _ (plan plan' : Plan) (objects objects' : List Payload) (signatures : pla
         moved e _ f _ is is' (record { same = inl (next ∙ ap suc state.done ∙ sym next'); right = tt })
 
     asking_same : (e f : Event) → SameSetting S (setting plan p) (setting plan' q) → SameMaybe (SameAsked S) (question plan p.state) (question plan' q.state)
-        → (forming plan p.state ≡ None) × (forming plan' q.state ≡ None) → MayCome plan objects (at_phase p Asking) e → MayCome plan' objects' (at_phase q Asking) f → Next e f
+        → Requesting plan objects p × Requesting plan' objects' q → MayCome plan objects (at_phase p Asking) e → MayCome plan' objects' (at_phase q Asking) f → Next e f
     asking_same e f settings questions none may may' =
         let (r, c, open_, comes, is) = asking_next plan objects p e none.0 may in
         let (r', c', open_', comes', is') = asking_next plan' objects' q f none.1 may' in
@@ -355,7 +355,7 @@ module _ (plan plan' : Plan) (objects objects' : List Payload) (signatures : pla
     -- what comes next, in each phase, where what is told next agrees
     pub phase_next : (x y : Phase) (e f : Event) → SamePhase S x y → SameRaises S objects (raises_of p.events) (raises_of q.events)
         → ((x ≡ Idle) ⊎ (SameSetting S (setting plan p) (setting plan' q) × SameMaybe (SameAsked S) (question plan p.state) (question plan' q.state)))
-        → ((x ≡ Idle) ⊎ ((forming plan p.state ≡ None) × (forming plan' q.state ≡ None)))
+        → ((x ≡ Idle) ⊎ (Requesting plan objects p × Requesting plan' objects' q))
         → (x ≡ Going → IsTold plan objects p e → IsTold plan' objects' q f → SameTelling S e f) → TellsRaise objects p.events e → TellsRaise objects' q.events f
         → MayCome plan objects (at_phase p x) e → MayCome plan' objects' (at_phase q y) f → Next e f
     phase_next Idle Idle e f phase raises open_ forms telling tells tells' may may' = idle_same e f may may'

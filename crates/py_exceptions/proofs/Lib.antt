@@ -13,10 +13,12 @@ mod ReprLemmas
 pub mod TracebacksLemmas
 -- links, and walks along them
 mod LinksLemmas
-mod WalksLemmas
+pub mod WalksLemmas
 mod OrdersLemmas
 -- what a change of a context does, and that contexts lead back to no exception
 mod ContextsLemmas
 mod AcyclicLemmas
 -- the objects that come as an exception is reduced
 mod ReducingLemmas
+-- whether what an exception names is there
+mod ReducibleLemmas

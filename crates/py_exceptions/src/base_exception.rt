@@ -1,6 +1,6 @@
 //! What an exception is asked and given by its number: its arguments, its links, and its texts.
 
-ghost use Rattle.std.specs.Prelude.{◌≡◌, ◌<◌, ◌≤◌, ◌+◌, true, List, IfOk};
+ghost use Rattle.std.specs.Prelude.{◌≡◌, ◌<◌, ◌≤◌, ◌+◌, true, Decides, List, IfOk};
 ghost use Rattle.py_objects.specs.declared.refs.PyBaseExceptionRef.{PyBaseExceptionRef as ExceptionRef};
 ghost use Rattle.py_objects.specs.Objects.{Obj, as_object, IfThere, IsException, IsTraceback};
 ghost use Rattle.py_objects.specs.Edits.{objects_of, IsEdited};
@@ -15,6 +15,7 @@ ghost use Rattle.py_exceptions.specs.Tracebacks.{traceback_edit, traceback_objec
 
 use crate::links::{as_exception, change_exception, set_link};
 use crate::reading::{exception_body, tuple_items};
+use crate::reducible::is_reducible;
 use crate::reducing::reduced;
 use crate::texts::{push_whole_repr, push_whole_str};
 use crate::tracebacks::traceback_object;
@@ -122,6 +123,11 @@ pub trait BaseException {
     fn repr(&self, alloc: Global, store: &Store) -> Result<PyText, NoMemory>
         ensures { IfOk result (λ text. text ≡ repr_of (objects_of store.now) (exception self.now)) };
 
+    /// Whether it is an exception, and its class, its arguments and the values of its attributes are there, so that it can be
+    /// reduced. The names of attributes are copied for that.
+    fn is_reducible(&self, store: &Store) -> Result<bool, NoMemory>
+        ensures { IfOk result (λ yes. Decides yes (IsReducible store.now (exception self.now))) };
+
     /// What it can be made again from: a new tuple of its class and its arguments, and of a new dict of its attributes where it has
     /// any. Where memory runs out, objects may have come that nothing names.
     fn reduce(&self, store: &mut Store) -> Result<PyObjectRef, NoMemory>
@@ -201,6 +207,10 @@ impl BaseException for PyBaseExceptionRef {
         let mut out = String::new(alloc);
         push_whole_repr(&mut out, store.objects(), PyObjectRef::from(*self))?;
         text_of_str(alloc, out.as_str())
+    }
+
+    fn is_reducible(&self, store: &Store) -> Result<bool, NoMemory> {
+        is_reducible(store, *self)
     }
 
     fn reduce(&self, store: &mut Store) -> Result<PyObjectRef, NoMemory> {

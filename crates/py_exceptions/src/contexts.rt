@@ -1,6 +1,6 @@
 //! The context of an exception: the one that is handled as it comes (Python Language Reference, 7.8 and 8.4).
 
-ghost use Rattle.std.specs.Prelude.{◌<◌, ◌≤◌, ◌+◌, Some};
+ghost use Rattle.std.specs.Prelude.{◌<◌, ◌≤◌, ◌+◌};
 ghost use Rattle.py_objects.specs.Objects.{as_object, IfThere, IsException};
 ghost use Rattle.py_objects.specs.Edits.{objects_of};
 ghost use Rattle.py_stack.specs.Slots.{topmost};
@@ -24,17 +24,6 @@ pub fn contextualize_exception(store: &mut Store, stack: &ExceptionStack, exc: P
     let Some(handled) = stack.topmost_exception() else {
         return;
     };
-    link_unless_same(store, handled, exc);
-}
-
-/// The same for an exception that is handled.
-fn link_unless_same(store: &mut Store, handled: PyBaseExceptionRef, exc: PyBaseExceptionRef)
-    requires spare { 2 ≤ store.old.spare }
-    requires exception { IsException (objects_of store.old) (as_object exc) }
-    requires handled { IsException (objects_of store.old) (as_object handled) }
-    ensures contextualized { IsContextualized store.old store.new (Some handled) exc }
-    ensures spare { store.old.spare ≤ store.new.spare + 2 }
-{
     if handled.number == exc.number {
         return;
     }

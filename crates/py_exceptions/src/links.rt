@@ -9,12 +9,19 @@ ghost use Rattle.py_exceptions.specs.Walks.{link_at, link_of, IsFirstTo};
 use crate::repr::payload_at;
 use py_objects::{Edit, LinkField, Payload, PyBaseExceptionRef, PyObjectRef, Store};
 
-/// What a link of an object leads to, as the object is now.
+/// What a link of an object leads to. One that isn't there leads nowhere, nor does one without links of that kind.
+pub fn link_at(objects: &[Payload], field: LinkField, object: PyObjectRef) -> Option<PyObjectRef>
+    ensures { result ≡ link_at field objects.now object }
+{
+    let payload = payload_at(objects, object)?;
+    link_of(field, payload)
+}
+
+/// The same in a store, as the object is now.
 pub(crate) fn link(store: &Store, field: LinkField, object: PyObjectRef) -> Option<PyObjectRef>
     ensures { result ≡ link_at field (objects_of store.now) object }
 {
-    let payload = payload_at(store.objects(), object)?;
-    link_of(field, payload)
+    link_at(store.objects(), field, object)
 }
 
 /// What a link of a payload leads to.

@@ -315,6 +315,7 @@ drive_keeps ts more made (drive.Throw n c v) h =
     let both = and_parts (numbers_drive made n) (is_base (map declared_as ts) c) parts.0 in
     record { drive = numbers_by_test made n both.0; class = class_by_test c ts more both.1; value = throwable_by_test ts more made v parts.1 }
 drive_keeps ts more made (drive.Close n) h = numbers_by_test made n h
+drive_keeps ts more made (drive.Report n) h = numbers_by_test made n h
 
 -- each drive of the items, behind the declarations and the drives in front of it
 drives_keep : (is : List Item) (ts : List Decl) (made : ℕ) → WellItems (map declared_as ts) made is → (i : ℕ) (d : DriveLine)

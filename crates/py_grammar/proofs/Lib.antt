@@ -24,7 +24,7 @@ mod Low
 mod Short
 pub mod Keeps
 -- the text of a script
-mod Texts
+pub mod Texts
 -- which verdict lines come to
 mod Walks
 pub mod Verdicts

@@ -253,6 +253,7 @@ may_drive_names ts t made (drive.Throw n c v) is =
     ap (λ b. numbers_drive made n && b && is_thrown_by t.names made v) (ap (λ q. is_base_by q.classes c) is ∙ sym (base-names c ts))
     ∙ ap (λ b. numbers_drive made n && is_base (map declared_as ts) c && b) (thrown-names ts t.names made v (ap (λ q. q.names) is))
 may_drive_names ts t made (drive.Close n) is = refl
+may_drive_names ts t made (drive.Report n) is = refl
 
 -- ---- raw codes
 

@@ -109,6 +109,7 @@ may_drive ds made (drive.Next n) = numbers_drive made n
 may_drive ds made (drive.Send n a) = numbers_drive made n && is_drivable ds made a
 may_drive ds made (drive.Throw n c v) = numbers_drive made n && is_base ds c && is_thrown ds made v
 may_drive ds made (drive.Close n) = numbers_drive made n
+may_drive ds made (drive.Report n) = numbers_drive made n
 
 -- ---- what stands in a body
 

@@ -1,5 +1,5 @@
 -- Which bytes are a script, and which line of them is the bad one.
-use Rattle.std.specs.Prelude.{◌≡◌, ◌⊎◌, ℕ, suc, List, [], ◌∷◌, ◌++◌, length, Option, Some, None, option_map, map}
+use Rattle.std.specs.Prelude.{◌≡◌, ◌⊎◌, ℕ, suc, List, [], ◌∷◌, ◌++◌, length, Option, Some, None, option_map, map, encode_utf8_all}
 use Rattle.std.specs.List.{AllZip}
 use Rattle.py_tree.specs.Views.{tree_of}
 use Rattle.py_lines.specs.declared.drive.DriveLine.{DriveLine}
@@ -66,6 +66,10 @@ IsBadLine bytes k = IsFirstBad (lines bytes) k ⊎ IsLeftOpen (lines bytes) k
 -- the bytes are this script
 abbrev pub IsScript : List ℕ → Script → Type 0
 IsScript bytes s = Spells (lines bytes) (decls_of s) s.drives
+
+-- and these are its characters
+abbrev pub IsReadScript : List ℕ → Script → Type 0
+IsReadScript bytes s = IsScript bytes s × (encode_utf8_all s.text ≡ bytes)
 
 -- bytes spell some script
 abbrev pub SpellsSome : List ℕ → Type 0

@@ -102,3 +102,4 @@ may_drive_by t made (drive.Next n) = numbers_drive made n
 may_drive_by t made (drive.Send n a) = numbers_drive made n && is_drivable_by t.names made a
 may_drive_by t made (drive.Throw n c v) = numbers_drive made n && is_base_by t.classes c && is_thrown_by t.names made v
 may_drive_by t made (drive.Close n) = numbers_drive made n
+may_drive_by t made (drive.Report n) = numbers_drive made n

@@ -121,6 +121,7 @@ IsWellDriven decls made (drive.Next n) = NumbersDrive made n
 IsWellDriven decls made (drive.Send n a) = IsWellSent decls made n a
 IsWellDriven decls made (drive.Throw n c v) = IsWellThrown decls made n c v
 IsWellDriven decls made (drive.Close n) = NumbersDrive made n
+IsWellDriven decls made (drive.Report n) = NumbersDrive made n
 
 -- each drive, behind those in front of it
 abbrev pub AreWellDriven : List Decl → List DriveLine → Type 0

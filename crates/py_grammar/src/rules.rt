@@ -160,6 +160,7 @@ fn may_follow(table: &Table, made: usize, drive: &DriveLine) -> bool
                 && is_thrown(&table.names, made, value)
         }
         DriveLine::Close(number) => numbers_drive(made, *number),
+        DriveLine::Report(number) => numbers_drive(made, *number),
     }
 }
 

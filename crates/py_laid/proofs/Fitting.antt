@@ -11,6 +11,8 @@ laid_code_fits table globals code t laid plain named = let typed = laid_code_is_
   kind = laid.kind;
   arity = laid.arity;
   params = params_named table globals code.code t laid.arity named;
+  source_path = named.source_path;
+  obj_name = named.obj_name;
   sound = record {
     shapes = [];
     typed = typed.0 [];

@@ -1,5 +1,5 @@
 -- Code that does what a body does.
-use Rattle.std.specs.Prelude.{ℕ, Bool, false, Option, Some, None, List, ◌∷◌, ◌++◌, ◌≡◌, length, slice_get, eqb}
+use Rattle.std.specs.Prelude.{ℕ, Bool, false, Option, Some, None, List, ◌∷◌, ◌++◌, ◌≡◌, length, slice_get, eqb, codes, encode_utf8_all}
 use Rattle.py_code.specs.declared.code.PyCode.{PyCode}
 use Rattle.py_objects.specs.declared.refs.PyBaseExceptionRef.{PyBaseExceptionRef}
 use Rattle.py_objects.specs.declared.payload.Payload.{Payload}
@@ -13,6 +13,7 @@ use Rattle.py_check.specs.Sheet.{sheet_of}
 use Rattle.py_check.specs.Typing.{IsTyped}
 use Rattle.py_rows.specs.Sound.{IsSound}
 use Rattle.py_rows.specs.Signature.{kind_of, params_of}
+use Rattle.py_laid.specs.Naming.{IsNameOf}
 use Rattle.py_tree.specs.Tree.{Tree, seen_as}
 use Rattle.py_tree.specs.Scene.{Scene}
 use Rattle.py_tree.specs.Trace.{IsTrace}
@@ -31,7 +32,7 @@ abbrev pub located : PyCode → List Payload → Obj → ThrowTest → Scene
 located code objects globals throws =
     record { objects = objects; globals = globals; is_of = λ at line. is_line line (slice_get code.code.locations.items at); throws_under = throws }
 
--- the code has the body's kind and its parameters, keeps the typing rules with its notes, behind whatever codes, its names are in the table, and each run of its
+-- the code has the body's kind, its name and its parameters, and the path of scripts, keeps the typing rules with its notes, behind whatever codes, its names are in the table, and each run of its
 -- rows, whole or cut, from any arguments, with any closure, whatever the slot holds at first and whatever answers of the wanted kinds come, is a
 -- trace of the body behind the making of its activation, in which each unit that asks has its statement's line. Where an exception is
 -- thrown in, the body handles what the frame's blocks do: a test that lets the run through lets the trace through. All this where the
@@ -40,6 +41,8 @@ pub record Fits (names : List (List ℕ)) (code : Annotated) (t : Tree) : Type 0
   pub kind : kind_of code.code.code.flags ≡ seen_as t.kind
   pub arity : code.code.code.arg_count ≡ length t.params
   pub params : params_of names code.code ≡ t.params
+  pub source_path : IsNameOf names code.code.code.source_path (codes "<script>")
+  pub obj_name : IsNameOf names code.code.code.obj_name (encode_utf8_all t.name)
   pub sound : IsSound names code
   pub typed : (shapes : List ℕ) → IsTyped shapes (sheet_of code)
   pub traces : (table : List (List ℕ)) (globals : Obj) (closure : List Obj) (objects : List Payload) (throws : ThrowTest)

@@ -135,6 +135,7 @@ drive_class (drive_line.Next n) = word_first (codes "next") (number_token n ∷ 
 drive_class (drive_line.Send n a) = word_first (codes "send") (number_token n ∷ drive_token a ∷ []) false refl (number_equals is_short n (drive_token a ∷ []))
 drive_class (drive_line.Throw n c v) = word_first (codes "throw") (number_token n ∷ Word c ∷ thrown_tokens v) false refl (number_equals is_short n (Word c ∷ thrown_tokens v))
 drive_class (drive_line.Close n) = word_first (codes "close") (number_token n ∷ []) false refl (number_equals is_short n [])
+drive_class (drive_line.Report n) = word_first (codes "report") (number_token n ∷ []) false refl (number_equals is_short n [])
 
 raw_class : (r : RawLine) → tokens_class (raw_tokens r) ≡ Some Raws
 raw_class (raw.Flags fs) = word_first (codes "flags") _ true refl (flags_equals fs)

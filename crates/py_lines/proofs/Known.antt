@@ -114,6 +114,7 @@ drive_known (drive.Next n) = known_and (number_token n) [] (number_known is_shor
 drive_known (drive.Send n a) = known_and (number_token n) (drive_token a ∷ []) (number_known is_short n) (known_and (drive_token a) [] (argument_known a) refl)
 drive_known (drive.Throw n c v) = known_and (number_token n) (Named c ∷ thrown_tokens v) (number_known is_short n) (thrown_known v)
 drive_known (drive.Close n) = known_and (number_token n) [] (number_known is_short n) refl
+drive_known (drive.Report n) = known_and (number_token n) [] (number_known is_short n) refl
 
 flag_known : (f : RawFlag) → is_known (flag_token f) ≡ true
 flag_known flag.Gen = refl

@@ -34,6 +34,6 @@ pub mod Readings
 mod Ascii
 mod PartsAscii
 mod Known
-mod Utf8
+pub mod Utf8
 mod WorkedLemmas
 mod RawWorked

@@ -107,6 +107,7 @@ same_drive (drive_line.Next m) (drive_line.Next n) h = let k : m ≡ n = same_co
 same_drive (drive_line.Send m a) (drive_line.Send n b) h = let j : m ≡ n = same_count is_short m n (cc) in let k : a ≡ b = same_drive_atom a b (cc) in cc
 same_drive (drive_line.Throw m c v) (drive_line.Throw n d w) h = let j : m ≡ n = same_count is_short m n (cc) in let k : v ≡ w = same_thrown v w (cc) in cc
 same_drive (drive_line.Close m) (drive_line.Close n) h = let k : m ≡ n = same_count is_short m n (cc) in cc
+same_drive (drive_line.Report m) (drive_line.Report n) h = let k : m ≡ n = same_count is_short m n (cc) in cc
 same_drive d e h = absurd (other_word _ _ refl _ _ h)
 
 -- no two lines print the same tokens

@@ -152,12 +152,14 @@ find_drive ts =
     or_else (find_behind (behind_word (codes "send") ts) (find_both (find_count is_short) (find_lone find_argument))) (λ z. Found (drive_line.Send z.0 z.1)) λ no_send.
     or_else (find_behind (behind_word (codes "throw") ts) (find_both (find_count is_short) (find_both find_name find_thrown))) (λ z. Found (drive_line.Throw z.0 z.1.0 z.1.1)) λ no_throw.
     or_else (find_behind (behind_word (codes "close") ts) (find_lone (find_count is_short))) (λ n. Found (drive_line.Close n)) λ no_close.
+    or_else (find_behind (behind_word (codes "report") ts) (find_lone (find_count is_short))) (λ n. Found (drive_line.Report n)) λ no_report.
     Missing (elim [
       | drive_line.Call f args ↦ no_call (f, args)
       | drive_line.Next n ↦ no_next n
       | drive_line.Send n a ↦ no_send (n, a)
       | drive_line.Throw n c v ↦ no_throw (n, (c, v))
       | drive_line.Close n ↦ no_close n
+      | drive_line.Report n ↦ no_report n
     ])
 
 pub find_line : (ts : List Meaning) → Finds (λ (z : (l : Line) × LineIsLow l). line_tokens z.0) ts

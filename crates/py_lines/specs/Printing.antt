@@ -118,6 +118,7 @@ drive_tokens (drive_line.Next n) = Word (codes "next") ∷ number_token n ∷ []
 drive_tokens (drive_line.Send n a) = Word (codes "send") ∷ number_token n ∷ drive_token a ∷ []
 drive_tokens (drive_line.Throw n c v) = Word (codes "throw") ∷ number_token n ∷ Word c ∷ thrown_tokens v
 drive_tokens (drive_line.Close n) = Word (codes "close") ∷ number_token n ∷ []
+drive_tokens (drive_line.Report n) = Word (codes "report") ∷ number_token n ∷ []
 
 -- the tokens of a line
 abbrev pub line_tokens : Line → List Meaning

@@ -46,6 +46,8 @@ pub enum DriveLine {
     Throw(u64, PyText, Option<DriveAtom>),
     /// `close N`: it is closed.
     Close(u64),
+    /// `report N`: the exception that the drive of this number raised is reported.
+    Report(u64),
 }
 
 impl DriveAtom {
@@ -171,6 +173,16 @@ fn close_of(tokens: &[Sense<'_>]) -> Option<DriveLine>
     Some(DriveLine::Close(number))
 }
 
+/// The drive that the tokens behind a `report` make.
+fn report_of(tokens: &[Sense<'_>]) -> Option<DriveLine>
+    ensures { ReadsAfter (Word (codes "report")) drive_tokens tokens.now result }
+{
+    let Some(number) = lone_number(tokens) else {
+        return None;
+    };
+    Some(DriveLine::Report(number))
+}
+
 /// The number of a drive, and the argument behind it.
 fn number_and_atom(
     alloc: Global,
@@ -273,6 +285,9 @@ fn drive_by(alloc: Global, word: &[u8], rest: &[Sense<'_>]) -> Result<Option<Dri
     }
     if word == b"close".as_slice() {
         return Ok(close_of(rest));
+    }
+    if word == b"report".as_slice() {
+        return Ok(report_of(rest));
     }
     Ok(None)
 }

@@ -16,7 +16,7 @@ use Rattle.py_lines.specs.declared.drive.DriveAtom.{DriveAtom}
 use Rattle.py_lines.specs.declared.drive.DriveAtom.TheVariants as atom
 use Rattle.py_lines.specs.declared.drive.DriveLine.{DriveLine}
 use Rattle.py_lines.specs.declared.drive.DriveLine.TheVariants as drive
-use Rattle.py_run.specs.Run.{Pose, Requests, Forms, Posed, Plan, State, start, after, state_after}
+use Rattle.py_run.specs.Run.{Pose, Requests, Forms, Reports, Posed, Plan, State, start, after, state_after}
 use Rattle.py_run.specs.Coming.{Past, nothing, past_after, MayCome, Comes}
 use Rattle.py_run.proofs.RunLemmas.{comes_front}
 use Rattle.py_agreement.specs.Agreement.{Relation, SameMaybe, SameAll, has_literal}
@@ -24,7 +24,9 @@ use Rattle.py_determined.specs.Sameness.{SameAsked}
 use Rattle.py_determined.specs.Events.{SameResult, SameEvent, SameEvents}
 use Rattle.py_determined.proofs.SameStates.{SamePose, SamePosed}
 use Rattle.py_meaning.specs.Earlier.{AtomIsEarlier, ValueIsEarlier, LineIsEarlier, NameEarlier}
+use Rattle.py_meaning.specs.Core.{is_plain}
 use Rattle.py_meaning.specs.Whole.{IsLeft, IsLeftBy, IsOf, AreOf, IsThrown, AsksThis, Poses, AreAsked}
+use Rattle.py_meaning.proofs.CoreLemmas.{ArePlain, none_reported}
 
 -- ---- results come in the order of their numbers
 
@@ -157,11 +159,14 @@ module _ (S : Relation) where
           asked_as r r' (request.Throw g c (Some v) None) (request.Throw g' c' (Some w) None) is is'
           ((left n g g' may.0 by by', declared_agree x c c' said said', thrown_agrees a v w may.1 of of', tt), tt)
       asks_agree (drive.Close n) r r' may (g, is, by) (g', is', by') = asked_as r r' (request.Close g) (request.Close g') is is' (left n g g' may by by', tt)
+      asks_agree (drive.Report n) r r' may asks asks' = absurd asks
 
-      pub poses_agree : (d : DriveLine) (x y : Pose) → LineIsEarlier made d → Poses objects es d x → Poses objects' es' d y → SamePose S x y
-      poses_agree d (Requests r) (Requests r') may asks asks' = asks_agree d r r' may asks asks'
-      poses_agree d (Forms x) y may asks asks' = absurd asks
-      poses_agree d (Requests r) (Forms y) may asks asks' = absurd asks'
+      pub poses_agree : (d : DriveLine) (x y : Pose) → is_plain d ≡ true → LineIsEarlier made d → Poses objects es d x → Poses objects' es' d y → SamePose S x y
+      poses_agree d (Requests r) (Requests r') plain may asks asks' = asks_agree d r r' may asks asks'
+      poses_agree d (Forms x) y plain may asks asks' = absurd asks
+      poses_agree d (Requests r) (Forms y) plain may asks asks' = absurd asks'
+      poses_agree d (Reports e) y plain may asks asks' = absurd (none_reported d es e plain asks)
+      poses_agree d (Requests r) (Reports e) plain may asks asks' = absurd (none_reported d es' e plain asks')
 
     -- ---- drives of a run
 
@@ -187,19 +192,19 @@ module _ (S : Relation) where
 
     -- a drive poses the same in two runs, where the events behind which those in front of it are done are the same
     pub posed_agree : (ds : List DriveLine) (asked asked' : List Posed) (plan plan' : Plan) (es fs more more' : List Event) (i : ℕ) (q q' : Posed)
-        → NameEarlier ds
+        → NameEarlier ds → ArePlain ds
         → Comes plan objects nothing (es ++ more) → Comes plan' objects' nothing (fs ++ more') → SameEvents S es fs
         → i ≤ (state_after start es).done → i ≤ (state_after start fs).done
         → AreAsked objects (es ++ more) ds asked → AreAsked objects' (fs ++ more') ds asked'
         → slice_get asked i ≡ Some q → slice_get asked' i ≡ Some q' → SamePosed S q q'
-    posed_agree ds asked asked' plan plan' es fs more more' i q q' well comes comes' same low low' are are' at at' =
+    posed_agree ds asked asked' plan plan' es fs more more' i q q' well core comes comes' same low low' are are' at at' =
         let (d, line, asks, none) = asked_at objects (es ++ more) ds asked i q are at in
         let (d', line', asks', none') = asked_at objects' (fs ++ more') ds asked' i q' are' at' in
         let one : d' ≡ d = one_entry d' d (sym line' ∙ line) in
         record {
           pose =
               poses_agree i (es ++ more) (fs ++ more')
-              (λ n v w few by by'. left_by_agrees plan plan' es fs more more' n v w comes comes' same (omega (arith, few, low)) (omega (arith, few, low')) by by') d q.pose q'.pose (well i d line) asks
+              (λ n v w few by by'. left_by_agrees plan plan' es fs more more' n v w comes comes' same (omega (arith, few, low)) (omega (arith, few, low')) by by') d q.pose q'.pose (core i d line) (well i d line) asks
               (subst (λ (x : DriveLine). Poses objects' (fs ++ more') x q'.pose) one asks');
           entered = none ∙ sym none';
         }

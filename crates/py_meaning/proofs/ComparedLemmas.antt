@@ -28,10 +28,10 @@ module _ (j j' : Journal) (are : AreRuns j j') where
   S = Paired j.objects j'.objects j.events j'.events
 
   same : SameEvents S j.events j'.events
-  same = (scripts_agree are.decls are.drives are.core are.earlier j j' are.is are.is').0
+  same = (scripts_agree are.decls are.drives are.core are.earlier are.sources are.sources' j j' are.is are.is').0
 
   alike : AreAlike S j.objects j'.objects
-  alike = (scripts_agree are.decls are.drives are.core are.earlier j j' are.is are.is').1
+  alike = (scripts_agree are.decls are.drives are.core are.earlier are.sources are.sources' j j' are.is are.is').1
 
   -- values that are got at one place are related
   gets_related : (i : ℕ) (v w : Obj) → Gets j.events i v → Gets j'.events i w → S v w

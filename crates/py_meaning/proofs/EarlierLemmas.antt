@@ -37,6 +37,7 @@ module _ (decls : List Decl) (made : ℕ) where
   line_earlier (drive.Send n a) may = (may.drive.1, atom_earlier a may.value)
   line_earlier (drive.Throw n c v) may = (may.drive.1, value_earlier v may.value)
   line_earlier (drive.Close n) may = may.1
+  line_earlier (drive.Report n) may = may.1
 
 pub script_earlier : (bytes : List ℕ) (s : Script) → IsScript bytes s → NameEarlier s.drives
 script_earlier bytes s is = λ i d at. line_earlier (decls_of s) i d (script_driven bytes s is i d at)

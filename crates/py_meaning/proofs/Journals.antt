@@ -40,7 +40,9 @@ use Rattle.py_lines.specs.Line.{LineRead, Said}
 use Rattle.py_grammar.specs.Grammar.{Row, FunctionDecl, Coded, OfBody, Item, items_rows}
 use Rattle.py_answers.specs.Answers.{This, Reply, Passes, Replies, CallsAs, GivesBody, IsRaised, sum, whole}
 use Rattle.py_coro.specs.declared.coro.CoroEnd.{CoroEnd}
-use Rattle.py_run.specs.Run.{Signature, Pose, Requests, Forms, Posed, Plan, Activation, Phase, Asking, IsTop, requested, makings, question, start, state_after}
+use Rattle.py_meaning.specs.Core.{is_plain}
+use Rattle.py_meaning.proofs.CoreLemmas.{none_reported}
+use Rattle.py_run.specs.Run.{Signature, Pose, Requests, Forms, Reports, Posed, Plan, Activation, Phase, Asking, IsTop, requested, makings, to_report, question, start, state_after}
 use Rattle.py_run.specs.Calls.{Course, Says, Enters, Setting, LeavesCalled, IsDue, refusal, made_at, bound_by, CallsFunction, ComesTo}
 use Rattle.py_run.specs.Coming.{Past, setting, IsOfKind, IsReply, MayCome, nothing, Comes, EachTells}
 use Rattle.py_run.specs.Past.{past_behind}
@@ -141,10 +143,12 @@ asked_under units h g r q at k i w ts K (inr more) =
 pub asked_so : (units : ℕ → Bool) (r q : Request) (at k i : ℕ) (w : GotAnswer) (ts : List Own) (K : AfterValue) → Asked units r None k (Asks at q None ∷ Gets i w ∷ ts) K → Answers w i ts K
 asked_so units r q at k i w ts K asked = asked_under units None None r q at k i w ts K asked
 
--- what a drive of a script requests
-pub posed_request : (store : List Payload) (events : List Event) (d : DriveLine) (x : Pose) → Poses store events d x → (r : Request) × (requested x ≡ Some r) × AsksThis store events d r × (makings x ≡ None)
-posed_request store events d (Requests r) asks = (r, refl, asks, refl)
-posed_request store events d (Forms x) asks = absurd asks
+-- what a drive of a script requests, unless it has something reported
+pub posed_request : (store : List Payload) (events : List Event) (d : DriveLine) (x : Pose) → is_plain d ≡ true → Poses store events d x
+    → (r : Request) × (requested x ≡ Some r) × AsksThis store events d r × ((makings x ≡ None) × (to_report x ≡ None))
+posed_request store events d (Requests r) plain asks = (r, refl, asks, (refl, refl))
+posed_request store events d (Forms x) plain asks = absurd asks
+posed_request store events d (Reports e) plain asks = absurd (none_reported d events e plain asks)
 
 -- no more drives are begun than the script has
 pub few_asked : (store : List Payload) (events : List Event) (ds : List DriveLine) (qs : List Posed) → AreAsked store events ds qs → length qs ≤ length ds
@@ -441,7 +445,7 @@ module _ (t : Tree) where
   first_raises qs more rest few binds plain k =
       let asking : Past = past_behind (plan_with qs) nothing (entered 1 (asked 1 (object 3) (object 4) [])) in
       asking_comes qs greatest (pos 1) (error_objects OverflowError more) (raised 1 (exception 8) rest) few binds plain
-      (sum_comes (plan_with qs) greatest (pos 1) (error_objects OverflowError more) asking 1 (got.Raise (exception 8)) refl refl refl (overflows 8 more asking.events refl (refl, (refl, (refl, (refl, tt))))), ((refl, refl), ((refl, refl, (Passes (This (exception 8)), inl (_, refl, (refl, refl)), refl)), k)))
+      (sum_comes (plan_with qs) greatest (pos 1) (error_objects OverflowError more) asking 1 (got.Raise (exception 8)) refl refl refl (overflows 8 more asking.events refl (refl, (refl, (refl, (refl, tt))))), ((refl, refl), ((refl, refl, inl (Passes (This (exception 8)), inl (_, refl, (refl, refl)), refl)), k)))
 
   -- what the activation of a drive that raises tells, which is entered and answered by the events with these numbers
   abbrev pub RaiseIsTraced : List Payload → ℕ → ℕ → PyBaseExceptionRef → Type 0

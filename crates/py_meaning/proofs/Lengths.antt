@@ -18,6 +18,7 @@ use Rattle.py_run.proofs.PastLemmas.{past_state}
 use Rattle.py_run.proofs.RunLemmas.{comes_rest, asking_busy, going_busy, made_busy, due_busy}
 use Rattle.py_agreement.specs.Agreement.{Relation}
 use Rattle.py_determined.specs.Events.{SameEvent, SameEvents}
+use Rattle.py_meaning.specs.Reported.{sources_of}
 use Rattle.py_meaning.specs.Whole.{IsJournalOf, AreAsked, IsRunOf, plan_of, IsRun, IsWhole, IsRunFrom, IsWholeFrom, IsUnfinishedFrom}
 
 -- ---- behind a run that is done
@@ -35,8 +36,9 @@ module _ (plan : Plan) (objects : List Payload) where
   nothing_comes p (event.Yield a v at) idle all may = going_busy (sym may.0 ∙ idle)
   nothing_comes p (event.End a e at) idle all may = going_busy (sym may.0 ∙ idle)
   nothing_comes p (event.Got a w) idle all (top, (reply, (r, asks, replies), gives)) = subst (λ (x : Phase). IsReply plan objects p x r reply) idle replies
-  nothing_comes p (event.Result d w) idle all (next, alone, (reply, inr (asks, formed), gives)) = asking_busy (sym asks ∙ idle)
-  nothing_comes p (event.Result d w) idle all (next, alone, (reply, inl (r, asks, replies), gives)) = subst (λ (x : Phase). IsReply plan objects p x r reply) idle replies
+  nothing_comes p (event.Result d w) idle all (next, alone, inr (asks, reported)) = asking_busy (sym asks ∙ idle)
+  nothing_comes p (event.Result d w) idle all (next, alone, inl (reply, inr (asks, formed), gives)) = asking_busy (sym asks ∙ idle)
+  nothing_comes p (event.Result d w) idle all (next, alone, inl (reply, inl (r, asks, replies), gives)) = subst (λ (x : Phase). IsReply plan objects p x r reply) idle replies
 
   none_come : (p : Past) (es : List Event) → p.state.phase ≡ Idle → length plan.asked ≤ p.state.done → Comes plan objects p es → es ≡ []
   none_come p [] idle all comes = refl
@@ -65,10 +67,11 @@ pub record Follows (s s' : State) : Type 0 where
   pub idle : s.phase ≡ Idle → s'.phase ≡ Idle
 
 -- a journal of a script is one of the other script that the bytes are
-pub journal_of : (bytes : List ℕ) (s t : Script) (j : Journal) → IsScript bytes s → IsScript bytes t → IsRun t j → IsRun s j
+pub journal_of : (bytes : List ℕ) (s t : Script) (j : Journal) → IsScript bytes s → IsScript bytes t → IsRun t j → IsJournalOf (decls_of s) s.drives (sources_of t.text) j
 journal_of bytes s t j is is' run =
     let one = one_tree bytes t s is' is in
-    subst (λ (ds : List Decl). IsJournalOf ds s.drives j) one.0 (subst (λ (l : List DriveLine). IsJournalOf (decls_of t) l j) one.1 run)
+    subst (λ (ds : List Decl). IsJournalOf ds s.drives (sources_of t.text) j) one.0
+    (subst (λ (l : List DriveLine). IsJournalOf (decls_of t) l (sources_of t.text) j) one.1 run)
 
 module _ (S : Relation) where
   follows_after : (s s' : State) (e f : Event) → SameEvent S e f → Follows s s' → Follows (after s e) (after s' f)
@@ -118,7 +121,7 @@ module _ (S : Relation) where
     no_longer (s, is, run, whole) (t, is', run') = by (cases_lt (length j.events) (length j'.events))
       where
         by : (length j.events < length j'.events) ⊎ (length j'.events ≤ length j.events) → length j'.events ≤ length j.events
-        by (inl longer) = let count = (last_is_whole s t is is' run whole run' (omega (arith, longer))).0 in omega (arith, count)
+        by (inl longer) = let count = (last_is_whole s t is.0 is'.0 run whole run' (omega (arith, longer))).0 in omega (arith, count)
         by (inr shorter) = shorter
 
     -- and one that isn't whole is shorter
@@ -127,4 +130,4 @@ module _ (S : Relation) where
       where
         by : (length j'.events < length j.events) ⊎ (length j.events ≤ length j'.events) → length j'.events < length j.events
         by (inl shorter) = shorter
-        by (inr enough) = absurd (not_whole (last_is_whole s t is is' run whole run' enough).1)
+        by (inr enough) = absurd (not_whole (last_is_whole s t is.0 is'.0 run whole run' enough).1)

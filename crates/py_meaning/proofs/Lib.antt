@@ -19,7 +19,7 @@ pub mod ScriptsAgree
 -- what is written where no object changes, and journals worked by hand
 mod PlainText
 mod WorkedObjects
-mod Journals
+pub mod Journals
 mod WorkedLemmas
 mod WorkedShowLemmas
 mod WorkedLoopLemmas

@@ -32,7 +32,7 @@ use Rattle.py_tree.specs.Trace.{IsBegun, Ended}
 use Rattle.py_lines.specs.declared.drive.DriveAtom.TheVariants as atom
 use Rattle.py_answers.specs.Answers.{This, Reply, Has, Is, Fails, Passes, GivesBody, GivesDrive, IsRaised, whole}
 use Rattle.py_coro.specs.declared.coro.CoroEnd.{CoroEnd}
-use Rattle.py_run.specs.Run.{Signature, Posed, Plan, left_by, Phase, Idle, Asking, Going, Made, Due, Act, Activation, State, start, after, state_after, makings_of, open_in, question, forming, entered_in, IsTop}
+use Rattle.py_run.specs.Run.{Signature, Posed, Plan, left_by, Phase, Idle, Asking, Going, Made, Due, Act, Activation, State, start, after, state_after, makings_of, to_report_by, open_in, question, forming, reporting, entered_in, IsTop}
 use Rattle.py_run.specs.Generators.{Generator}
 use Rattle.py_run.specs.Calls.{Course, Says, Enters, Begins, Setting, LeavesCalled, ComesTo, CallsFunction, entry_at}
 use Rattle.py_run.specs.Coming.{Past, setting, past_after, Starts, Opens, IsReply, MayCome, Comes}
@@ -138,8 +138,9 @@ module _ (store : List Payload) (globals : Obj) (journal : List Event) (qs : Lis
 
   idle_next : (before : List Event) (s : State) (xs : List Generator) (e : Event) → s.phase ≡ Idle → MayCome plan store (past_with before s xs) e → (e ≡ event.Drive (suc s.done)) × (s.done < length qs)
   idle_next before s xs (event.Drive d) p h = (ap event.Drive h.1, h.2)
-  idle_next before s xs (event.Result d w) p (next, alone, (reply, inr (asks, formed), gives)) = absurd (let clash = sym asks ∙ p in cc clash)
-  idle_next before s xs (event.Result d w) p (next, alone, (reply, inl (r, asks, replies), gives)) = absurd (subst (λ (x : Phase). IsReply plan store (past_with before s xs) x r reply) p replies)
+  idle_next before s xs (event.Result d w) p (next, alone, inl (reply, inr (asks, formed), gives)) = absurd (let clash = sym asks ∙ p in cc clash)
+  idle_next before s xs (event.Result d w) p (next, alone, inr (asks, reported)) = absurd (let clash = sym asks ∙ p in cc clash)
+  idle_next before s xs (event.Result d w) p (next, alone, inl (reply, inl (r, asks, replies), gives)) = absurd (subst (λ (x : Phase). IsReply plan store (past_with before s xs) x r reply) p replies)
   idle_next before s xs (event.Make a f vs) p h = absurd (cc h.1.0)
   idle_next before s xs (event.Resume a how.Start) p h = absurd (not_started before s xs Idle a p h)
   idle_next before s xs (event.Resume a (how.Send v)) p h = absurd (not_opened before s xs Idle _ p (λ e. cc) h)
@@ -157,10 +158,11 @@ module _ (store : List Payload) (globals : Obj) (journal : List Event) (qs : Lis
   entered_alone before s c only (phase, (r, asks, comes)) = let (f, vs, is, calls) = only r c asks comes in (f, vs, is)
 
   -- a drive's question is open
-  asked_next : (before : List Event) (s : State) (e : Event) → s.phase ≡ Asking → s.stack ≡ [] → forming plan s ≡ None → Enters_only before s → MayCome plan store (past before s) e
+  asked_next : (before : List Event) (s : State) (e : Event) → s.phase ≡ Asking → s.stack ≡ [] → (forming plan s ≡ None) × (reporting plan s ≡ None) → Enters_only before s → MayCome plan store (past before s) e
       → (f : Obj) × (vs : List Obj) × (e ≡ event.Make (suc (length s.made)) f vs) × (question plan s ≡ Some (Calling f vs keywords.None))
-  asked_next before s (event.Result d w) p q none only (next, alone, (reply, inr (asks, (x, forms, is)), gives)) = absurd (let clash : None ≡ Some x = sym none ∙ forms in cc clash)
-  asked_next before s (event.Result d w) p q none only (next, alone, (reply, inl (r, asks, replies), gives)) =
+  asked_next before s (event.Result d w) p q none only (next, alone, inl (reply, inr (asks, (x, forms, is)), gives)) = absurd (let clash : None ≡ Some x = sym none.0 ∙ forms in cc clash)
+  asked_next before s (event.Result d w) p q none only (next, alone, inr (asks, (e, reports, is))) = absurd (let clash : None ≡ Some e = sym none.1 ∙ reports in cc clash)
+  asked_next before s (event.Result d w) p q none only (next, alone, inl (reply, inl (r, asks, replies), gives)) =
       let (f, vs, is, calls) = only r (Says reply) asks (subst (λ (x : Phase). In before s x r reply) p replies) in
       absurd (cc is)
   asked_next before s (event.Make a f vs) p q none only (number, (phase, (r, asks, comes))) =
@@ -184,8 +186,9 @@ module _ (store : List Payload) (globals : Obj) (journal : List Event) (qs : Lis
   not_made before s f r reply (kind, is, more) = never_suspended function qs store f kind refl is
 
   made_next : (before : List Event) (s : State) (e : Event) (f : Obj) → s.phase ≡ Made f → MayCome plan store (past before s) e → e ≡ event.Resume (length s.made) how.Start
-  made_next before s (event.Result d w) f p (next, alone, (reply, inr (asks, formed), gives)) = absurd (let clash = sym asks ∙ p in cc clash)
-  made_next before s (event.Result d w) f p (next, alone, (reply, inl (r, asks, replies), gives)) = absurd (not_made before s f r reply (subst (λ (x : Phase). In before s x r reply) p replies))
+  made_next before s (event.Result d w) f p (next, alone, inl (reply, inr (asks, formed), gives)) = absurd (let clash = sym asks ∙ p in cc clash)
+  made_next before s (event.Result d w) f p (next, alone, inr (asks, reported)) = absurd (let clash = sym asks ∙ p in cc clash)
+  made_next before s (event.Result d w) f p (next, alone, inl (reply, inl (r, asks, replies), gives)) = absurd (not_made before s f r reply (subst (λ (x : Phase). In before s x r reply) p replies))
   made_next before s (event.Make a g vs) f p h = absurd (cc h.1.0)
   made_next before s (event.Resume a how.Start) f p h = ap (λ (k : ℕ). event.Resume k how.Start) (not_started before s [] (Made f) a p h).0
   made_next before s (event.Resume a (how.Send v)) f p h = absurd (not_opened before s [] (Made f) _ p (λ e. cc) h)
@@ -197,8 +200,9 @@ module _ (store : List Payload) (globals : Obj) (journal : List Event) (qs : Lis
   -- the innermost activation tells something
   going_next : (before : List Event) (s : State) (k : ℕ) (e : Event) → s.phase ≡ Going → MayCome plan store (past before s) e → IsTop (whose e) s.stack × ((o : Own) × (own_of k e ≡ o ∷ []))
   going_next before s k (event.Drive d) p h = absurd (cc h.0)
-  going_next before s k (event.Result d w) p (next, alone, (reply, inr (asks, formed), gives)) = absurd (let clash = sym asks ∙ p in cc clash)
-  going_next before s k (event.Result d w) p (next, alone, (reply, inl (r, asks, replies), gives)) = absurd (subst (λ (x : Phase). In before s x r reply) p replies)
+  going_next before s k (event.Result d w) p (next, alone, inl (reply, inr (asks, formed), gives)) = absurd (let clash = sym asks ∙ p in cc clash)
+  going_next before s k (event.Result d w) p (next, alone, inr (asks, reported)) = absurd (let clash = sym asks ∙ p in cc clash)
+  going_next before s k (event.Result d w) p (next, alone, inl (reply, inl (r, asks, replies), gives)) = absurd (subst (λ (x : Phase). In before s x r reply) p replies)
   going_next before s k (event.Make a f vs) p h = absurd (cc h.1.0)
   going_next before s k (event.Resume a how.Start) p h = absurd (not_started before s [] Going a p h)
   going_next before s k (event.Resume a (how.Send v)) p h = absurd (not_opened before s [] Going _ p (λ e. cc) h)
@@ -238,8 +242,9 @@ module _ (store : List Payload) (globals : Obj) (journal : List Event) (qs : Lis
   due_next : (before : List Event) (s : State) (e : Event) (left : CoroEnd) → s.phase ≡ Due left → s.stack ≡ [] → ((r : Request) → question plan s ≡ Some r → (f : Obj) × (vs : List Obj) × (r ≡ Calling f vs keywords.None))
       → MayCome plan store (past before s) e
       → (w : DriveAnswer) × (e ≡ event.Result (suc s.done) w) × ((reply : Reply) × LeavesCalled left reply × GivesDrive store before reply w)
-  due_next before s (event.Result d w) left p q call (next, alone, (reply, inr (asks, formed), gives)) = absurd (let clash = sym asks ∙ p in cc clash)
-  due_next before s (event.Result d w) left p q call (next, alone, (reply, inl (r, asks, replies), gives)) =
+  due_next before s (event.Result d w) left p q call (next, alone, inl (reply, inr (asks, formed), gives)) = absurd (let clash = sym asks ∙ p in cc clash)
+  due_next before s (event.Result d w) left p q call (next, alone, inr (asks, reported)) = absurd (let clash = sym asks ∙ p in cc clash)
+  due_next before s (event.Result d w) left p q call (next, alone, inl (reply, inl (r, asks, replies), gives)) =
       let (f, vs, calls) = call r asks in
       (w, ap (λ (k : ℕ). event.Result k w) next, (reply, due_leaves store r f vs left reply calls (subst (λ (x : Phase). In before s x r reply) p replies), gives))
   due_next before s (event.Make a f vs) left p q call h = absurd (cc h.1.0)
@@ -271,7 +276,7 @@ module _ (store : List Payload) (globals : Obj) (journal : List Event) (qs : Lis
   asks_call : (xs : List Posed) (r : Request) → AreAsked store journal (call_of (codes "f") m n ∷ []) xs → open_in (slice_get xs 0) [] ≡ Some r → (f : Obj) × (vs : List Obj) × (r ≡ Calling f vs keywords.None)
   asks_call [] r asked open_ = absurd (cc open_)
   asks_call (x ∷ xs) r asked open_ =
-      let (q, requests, (f, vs, is, named, of), none) = posed_request store journal (call_of (codes "f") m n) x.pose asked.0.0 in (f, vs, some_is _ _ (sym open_ ∙ requests) ∙ is)
+      let (q, requests, (f, vs, is, named, of), none) = posed_request store journal (call_of (codes "f") m n) x.pose refl asked.0.0 in (f, vs, some_is _ _ (sym open_ ∙ requests) ∙ is)
 
   ended : (made : List Activation) (xs : List Generator) (before es : List Event) → AreCalls → Comes plan store (past_with before (at 1 Idle [] made) xs) es → es ≡ []
   ended made xs before [] asked h = refl
@@ -354,7 +359,7 @@ module _ (store : List Payload) (globals : Obj) (journal : List Event) (qs : Lis
   first_asked : (xs : List Posed) (f : Obj) (vs : List Obj) → AreAsked store journal (call_of (codes "f") m n ∷ []) xs → open_in (slice_get xs 0) [] ≡ Some (Calling f vs keywords.None) → IsCalled f vs
   first_asked [] f vs h e = absurd cc
   first_asked (x ∷ xs) f vs h e =
-      let (q, requests, asks, none) = posed_request store journal (call_of (codes "f") m n) x.pose h.0.0 in
+      let (q, requests, asks, none) = posed_request store journal (call_of (codes "f") m n) x.pose refl h.0.0 in
       asked_for store journal (codes "f") (atom.Int m ∷ atom.Int n ∷ []) f vs (subst (AsksThis store journal (call_of (codes "f") m n)) (some_is _ _ (sym requests ∙ e)) asks)
 
   -- it is made by a host that has entered nothing
@@ -362,10 +367,10 @@ module _ (store : List Payload) (globals : Obj) (journal : List Event) (qs : Lis
   none_entered [] h = refl
   none_entered (x ∷ xs) h = h.0.1
 
-  -- and has no exception made
-  none_formed : (xs : List Posed) → AreAsked store journal (call_of (codes "f") m n ∷ []) xs → makings_of (slice_get xs 0) ≡ None
-  none_formed [] h = refl
-  none_formed (x ∷ xs) h = let (q, requests, asks, none) = posed_request store journal (call_of (codes "f") m n) x.pose h.0.0 in none
+  -- and has no exception made, and none reported
+  none_formed : (xs : List Posed) → AreAsked store journal (call_of (codes "f") m n ∷ []) xs → (makings_of (slice_get xs 0) ≡ None) × (to_report_by (slice_get xs 0) ≡ None)
+  none_formed [] h = (refl, refl)
+  none_formed (x ∷ xs) h = let (q, requests, asks, none) = posed_request store journal (call_of (codes "f") m n) x.pose refl h.0.0 in none
 
   -- with so many arguments as it takes the function is entered
   entered_by : (f : Obj) (vs : List Obj) (place : Setting) (course : Course) → AreObjects decls store → place.signatures ≡ map signature_of (codes_in decls) → place.depth ≡ 0 → IsCalled f vs → CallsFunction place store f vs course → course ≡ Enters f vs
@@ -381,7 +386,7 @@ module _ (store : List Payload) (globals : Obj) (journal : List Event) (qs : Lis
       → open_in (slice_get xs 0) [] ≡ Some r → ComesTo place store r course → (f : Obj) × (vs : List Obj) × (course ≡ Enters f vs) × (r ≡ Calling f vs keywords.None)
   enters_only [] r course place o signed h at_zero e c = absurd cc
   enters_only (x ∷ xs) r course place o signed h at_zero e c =
-      let (q, requests, (f, vs, is, named, of), none) = posed_request store journal (call_of (codes "f") m n) x.pose h.0.0 in
+      let (q, requests, (f, vs, is, named, of), none) = posed_request store journal (call_of (codes "f") m n) x.pose refl h.0.0 in
       let same : r ≡ Calling f vs keywords.None = some_is _ _ (sym e ∙ requests) ∙ is in
       let comes = subst (λ (y : Request). ComesTo place store y course) same c in (
         f,

@@ -12,6 +12,8 @@ use Rattle.py_meaning.specs.Core.{IsCore, IsCoreFrom}
 use Rattle.py_meaning.specs.Earlier.{NameEarlier}
 use Rattle.py_meaning.specs.Whole.{IsJournalOf, IsRunFrom, IsWholeFrom, IsUnfinishedFrom, Traces, plan_of}
 use Rattle.py_meaning.specs.Text.{text_of}
+use Rattle.py_reports.specs.Scenes.{SourceLines}
+use Rattle.py_meaning.specs.Reported.{sources_of}
 use Rattle.py_meaning.proofs.CoreLemmas.{core_script}
 use Rattle.py_meaning.proofs.EarlierLemmas.{script_earlier}
 use Rattle.py_meaning.proofs.OneScript.{signatures_agree, first_alike, bodies_agree, drives_agree}
@@ -20,20 +22,20 @@ use Rattle.py_meaning.proofs.Lengths.{journal_of, no_longer, unfinished_shorter}
 use Rattle.py_meaning.proofs.TextsAgree.{texts_agree}
 use Rattle.py_meaning.proofs.LinkedText.{linked_text}
 
--- two journals of the same declarations and drives, where no declaration is a raw code
-module _ (decls : List Decl) (drives : List DriveLine) (core : IsCore decls) (earlier : NameEarlier drives) (j j' : Journal) (is : IsJournalOf decls drives j)
-    (is' : IsJournalOf decls drives j') where
+-- two journals of the same declarations and drives, where no declaration is a raw code, and no drive has anything reported
+module _ (decls : List Decl) (drives : List DriveLine) (core : IsCore decls drives) (earlier : NameEarlier drives) (sources sources' : List SourceLines) (j j' : Journal)
+    (is : IsJournalOf decls drives sources j) (is' : IsJournalOf decls drives sources' j') where
   pub scripts_agree : SameEvents (Paired j.objects j'.objects j.events j'.events) j.events j'.events × AreAlike (Paired j.objects j'.objects j.events j'.events) j.objects j'.objects
   scripts_agree =
       runs_agree (plan_of (codes_in decls) is.run.asked) (plan_of (codes_in decls) is'.run.asked) j.objects j'.objects (Traces (codes_in decls) is.run.globals j.objects)
       (Traces (codes_in decls) is'.run.globals j'.objects) j.events j'.events (record {
         signatures = signatures_agree decls drives earlier j.objects j'.objects j.events j'.events is.run is'.run;
-        bodies = bodies_agree decls drives earlier j.objects j'.objects j.events j'.events is.run is'.run core;
+        bodies = bodies_agree decls drives earlier j.objects j'.objects j.events j'.events is.run is'.run core.declares;
         alike = first_alike decls drives earlier j.objects j'.objects j.events j'.events is.run is'.run;
-        drives = λ es fs more more' d here here' count same. drives_agree decls drives earlier j.objects j'.objects j.events j'.events is.run is'.run es fs more more' d here here' same;
-      }) is.run.run.comes is'.run.run.comes is.run.run.tells is'.run.run.tells (exits_told decls drives core earlier j is) (exits_told decls drives core earlier j' is')
+        drives = λ es fs more more' d here here' count same. drives_agree decls drives earlier j.objects j'.objects j.events j'.events is.run is'.run core.drives_plainly es fs more more' d here here' same;
+      }) is.run.run.comes is'.run.run.comes is.run.run.tells is'.run.run.tells (exits_told decls drives core earlier sources j is) (exits_told decls drives core earlier sources' j' is')
 
--- ---- journals of the script that bytes are, which has no raw code
+-- ---- journals of the script that bytes are, which has no raw code and no report
 
 whole_runs : (bytes : List ℕ) (j : Journal) → IsWholeFrom bytes j → IsRunFrom bytes j
 whole_runs bytes j (s, is, run, whole) = (s, is, run)
@@ -46,7 +48,7 @@ module _ (bytes : List ℕ) (j j' : Journal) (core : IsCoreFrom bytes) where
   pub runs_agree_from : IsRunFrom bytes j → IsRunFrom bytes j'
       → SameEvents (Paired j.objects j'.objects j.events j'.events) j.events j'.events × AreAlike (Paired j.objects j'.objects j.events j'.events) j.objects j'.objects
   runs_agree_from (s, is, run) (t, is', run') =
-      scripts_agree (decls_of s) s.drives (core_script bytes s core is) (script_earlier bytes s is) j j' run (journal_of bytes s t j' is is' run')
+      scripts_agree (decls_of s) s.drives (core_script bytes s core is.0) (script_earlier bytes s is.0) (sources_of s.text) (sources_of t.text) j j' run (journal_of bytes s t j' is.0 is'.0 run')
 
   -- one that isn't whole is shorter than a whole one
   pub shorter : IsWholeFrom bytes j → IsUnfinishedFrom bytes j' → length j'.events < length j.events

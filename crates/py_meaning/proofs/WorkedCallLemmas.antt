@@ -167,7 +167,7 @@ third_comes = (
     (
       refl,
       refl,
-      (
+      inl (
         Fails TypeError (too_many (codes "f") 0 1),
         inl (_, refl, inr (inl (object 1, object 6 ∷ [], refl, runs _ _ _ _ _ _ _ refl refl refl))),
         subst (λ (text : Name). IsRaised objects refusing TypeError text (exception 13)) (sym text_is) refused,
@@ -182,7 +182,7 @@ second_comes = (
   (refl, refl, lit< tt),
   (
     (refl, (refl, (_, refl, inr (inl (object 0, object 6 ∷ object 9 ∷ [], refl, runs _ _ _ _ _ _ _ refl refl refl))))),
-    ((refl, is_of_kind _ _ _ _ _ _ refl refl refl), ((refl, refl), ((refl, refl, (Is (object 6), inl (_, refl, (refl, refl)), refl)), third_comes))),
+    ((refl, is_of_kind _ _ _ _ _ _ refl refl refl), ((refl, refl), ((refl, refl, inl (Is (object 6), inl (_, refl, (refl, refl)), refl)), third_comes))),
   ),
 )
 
@@ -203,7 +203,7 @@ comes = (
               (refl, (refl, (_, refl, inr (inl (object 0, object 6 ∷ object 7 ∷ [], refl, runs _ _ _ _ _ _ _ refl refl refl))))),
               (
                 (refl, is_of_kind _ _ _ _ _ _ refl refl refl),
-                ((refl, refl), ((refl, (Is (object 6), (_, refl, (refl, refl)), refl)), ((refl, refl), ((refl, refl, (Is (object 6), inl (_, refl, (refl, refl)), refl)), second_comes)))),
+                ((refl, refl), ((refl, (Is (object 6), (_, refl, (refl, refl)), refl)), ((refl, refl), ((refl, refl, inl (Is (object 6), inl (_, refl, (refl, refl)), refl)), second_comes)))),
               ),
             ),
           ),
@@ -274,7 +274,7 @@ not_asked : (qs : List Posed) (r : Request) → AreAsked objects (again (object 
 not_asked [] r h e making = absurd cc
 not_asked (p ∷ []) r h e making = absurd cc
 not_asked (p ∷ q ∷ qs) r h e making =
-    let (first, requests, posed, none) = posed_request objects (again (object 0) []) second_drive q.pose h.1.0.0 in
+    let (first, requests, posed, none) = posed_request objects (again (object 0) []) second_drive q.pose refl h.1.0.0 in
     let asks = subst (AsksThis objects (again (object 0) []) second_drive) (some_is _ _ (sym requests ∙ e)) posed in
     let call = subst (λ (x : Request). IsMaking objects x (object 0) (object 0 ∷ object 9 ∷ [])) asks.2 making in
     let (is, args) =
@@ -313,18 +313,19 @@ result_value v w e = cc
 result_due : (qs : List Posed) (q : Request) (reply : Reply) → AreAsked objects (returned (object 0) []) drives qs → open_in (slice_get qs 0) [] ≡ Some q → IsDue objects q (how.Return (object 6)) reply → reply ≡ Is (object 6)
 result_due [] q reply are asks due = absurd (cc asks)
 result_due (p ∷ qs) q reply are asks due =
-    let (first, requests, (f, vs, is, named, of), none) = posed_request objects (returned (object 0) []) (drive.Call (codes "f") []) p.pose are.0.0 in
+    let (first, requests, (f, vs, is, named, of), none) = posed_request objects (returned (object 0) []) (drive.Call (codes "f") []) p.pose refl are.0.0 in
     due_leaves objects q f vs (how.Return (object 6)) reply (some_is _ _ (sym asks ∙ requests) ∙ is) due
 
 pub no_other_result : IsRunOf decls drives objects (returned (object 0) []) → ⊥
 no_other_result r =
     let before : List Event = left (event.Got 1 (got.Value (object 6)) ∷ event.End 1 (ending.Return (object 6)) 6 ∷ []) in
-    let (reply, result, gives) = r.run.comes.1.1.1.1.1.1.1.1.1.1.1.0.2 in
+    ⊎_elim (λ replied.
+    let (reply, result, gives) = replied in
     ⊎_elim (λ answered.
     let (q, asks, due) = answered in
     let is : reply ≡ Is (object 6) = result_due r.asked q reply r.are_asked asks due in
     let same = returned_so objects before (object 6) (answer.Returns (object 0)) (subst (λ (x : Reply). GivesDrive objects before x (answer.Returns (object 0))) is gives) in
-    differ 0 6 refl (result_value (object 0) (object 6) same)) (λ formed. cc formed.0) result
+    differ 0 6 refl (result_value (object 0) (object 6) same)) (λ formed. cc formed.0) result) (λ reported. cc reported.0) r.run.comes.1.1.1.1.1.1.1.1.1.1.1.0.2
 
 pub no_activation_of_a_refused_drive : IsRunOf decls drives objects refused_made → ⊥
 no_activation_of_a_refused_drive r =

@@ -28,8 +28,10 @@ use Rattle.py_exceptions.specs.Walks.{led, on_link}
 use Rattle.py_answers.specs.Answers.{This, Is, Fails, Matches, Passes, truth, unknown_text, IsRaised}
 use Rattle.py_run.specs.Run.{Activation, Plan}
 use Rattle.py_run.specs.Coming.{nothing as at_first, Comes}
+use Rattle.py_run.proofs.ReportsLemmas.{nothing_reported}
 use Rattle.py_run.specs.Run.{start, state_after}
 use Rattle.py_run.specs.Links.{AreLinks, ObjectEdit, Raises, cut, lines_in, links_at, named_by, named_in, noted, scene_at}
+use Rattle.py_meaning.specs.Reported.{origins_of}
 use Rattle.py_meaning.specs.Whole.{IsJournalOf, Traces, TracesUnder, IsRunOf, plan_of}
 use Rattle.py_meaning.specs.Text.{result_text, text_of}
 use Rattle.py_meaning.specs.Worked.{object, exception}
@@ -112,7 +114,7 @@ comes = (
                         (refl, refl),
                         (
                           (refl, (Fails NameError (unknown_text (codes "z")), (Global (object 2) (codes "z"), refl, inl (Fails NameError (unknown_text (codes "z")), refl, refl)), second_raised)),
-                          ((refl, refl), ((refl, refl, (Passes (This (exception 7)), inl (_, refl, (refl, refl)), refl)), tt)),
+                          ((refl, refl), ((refl, refl, inl (Passes (This (exception 7)), inl (_, refl, (refl, refl)), refl)), tt)),
                         ),
                       ),
                     ),
@@ -210,6 +212,7 @@ alone : AreLinks 1 15 links
 alone = (refl, lit≤ tt, lit≤ tt, (refl, lit≤ tt, lit≤ tt, (refl, lit≤ tt, lit≤ tt, tt)))
 
 pub is_run : AreItsChanges links
+unfolding is_run_of
 is_run k has = record {
   run = is_run_of;
   links = record {
@@ -306,6 +309,7 @@ is_run k has = record {
     );
     alone = alone;
   };
+  reports = nothing_reported (plan_of (codes_in decls) is_run_of.asked) (origins_of (codes_in decls) []) objects links [] events refl (lit≤ tt);
 }
 
 pub text : (k : Codes) → text_of (journal k links) ≡ codes "1 raises NameError: name 'z' is not defined\n"
@@ -319,7 +323,7 @@ text k =
 abbrev second_edits : Option Obj → Obj → List ObjectEdit
 second_edits found entry = (cut found ++ (object 7, edit.Link link.Context (Some (object 6))) ∷ []) ++ (object 7, edit.Link link.Traceback (Some entry)) ∷ []
 
-module _ (k : Codes) (changes : List Change) (j : IsJournalOf decls drives (journal k changes)) where
+module _ (k : Codes) (changes : List Change) (j : IsJournalOf decls drives [] (journal k changes)) where
   -- of the first raise its entry comes
   first_raise : Raises (lines_in k) objects true (scene_at (λ throws. TracesUnder throws (codes_in decls) j.run.globals objects) (lines_in k) objects changes before_first (state_after start before_first)) 1 1 (exception 6) j.links.come.2.2.2.2.1.0
   first_raise = j.links.come.2.2.2.2.1.1

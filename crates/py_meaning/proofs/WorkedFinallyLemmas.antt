@@ -75,7 +75,7 @@ comes = (
             (refl, refl),
             (
               (refl, (Has payload.None, (Showing (object 7), refl, inl (Has payload.None, refl, refl)), refl)),
-              ((refl, refl), ((refl, refl, (Passes (This (exception 6)), inl (_, refl, (refl, refl)), refl)), tt)),
+              ((refl, refl), ((refl, refl, inl (Passes (This (exception 6)), inl (_, refl, (refl, refl)), refl)), tt)),
             ),
           ),
         ),

@@ -62,12 +62,12 @@ comes = (
   (
     (refl, (refl, (_, refl, inr (inl (object 0, [], refl, runs _ _ _ _ _ _ _ refl refl refl))))),
     (
-      (refl, refl, (Creates _, inl (_, refl, (coro.Generator, is_of_kind _ _ _ _ _ _ refl refl refl, refl)), (new, refl))),
+      (refl, refl, inl (Creates _, inl (_, refl, (coro.Generator, is_of_kind _ _ _ _ _ _ refl refl refl, refl)), (new, refl))),
       (
         (refl, refl, lit< tt),
         (
           (refl, (_, refl, inr (inr (inr (inl (object 4, none_object, refl, (coro.Generator, _, record { body = _; entry = refl; kind_is = refl; kept = refl }, payload.None, refl, refl))))))),
-          ((refl, refl), ((refl, refl, (Yields (object 5), inl (_, refl, (_, refl, told.Value (object 5), refl, refl)), refl)), tt)),
+          ((refl, refl), ((refl, refl, inl (Yields (object 5), inl (_, refl, (_, refl, told.Value (object 5), refl, refl)), refl)), tt)),
         ),
       ),
     ),
@@ -123,18 +123,19 @@ no_entry_by_the_call r = suspended r.asked r.run.comes.1.1.0.1
 
 pub no_other_returned : IsRunOf decls drives objects returned_other → ⊥
 no_other_returned r =
-    let (reply, result, gives) = r.run.comes.1.1.0.2 in
+    ⊎_elim (λ replied.
+    let (reply, result, gives) = replied in
     ⊎_elim (λ answered.
     let (q, asks, (kind, is, creates)) = answered in
     let (is_new, has) = subst (λ (x : Reply). GivesDrive objects (event.Drive 1 ∷ event.Make 1 (object 0) [] ∷ []) x (answer.Returns (object 0))) creates gives in
-    cc has) (λ formed. cc formed.0) result
+    cc has) (λ formed. cc formed.0) result) (λ reported. cc reported.0) r.run.comes.1.1.0.2
 
 -- what the second drive asks of a generator is answered by what that yields
 yield_due : (es : List Event) (qs : List Posed) (q : Request) (v : Obj) (reply : Reply) → AreAsked objects es drives qs → open_in (slice_get qs 1) [] ≡ Some q → IsDue objects q (left.Yield v) reply → reply ≡ Yields v
 yield_due es [] q v reply are asks due = absurd (cc asks)
 yield_due es (p ∷ []) q v reply are asks due = absurd (cc asks)
 yield_due es (p ∷ p' ∷ qs) q v reply are asks due =
-    let (second, requests, (g, none, is, from, value), plain) = posed_request objects es (drive.Next 1) p'.pose are.1.0.0 in
+    let (second, requests, (g, none, is, from, value), plain) = posed_request objects es (drive.Next 1) p'.pose refl are.1.0.0 in
     let (body, has, a, finishes, replies) = subst (λ (x : Request). IsDue objects x (left.Yield v) reply) (some_is _ _ (sym asks ∙ requests) ∙ is) due in
     replies ∙ ap (reply_by (word_of body.kind)) finishes
 
@@ -143,11 +144,12 @@ yields_one v w e = cc
 
 pub no_other_value_yielded : IsRunOf decls drives objects (events_by (object 5) (object 3)) → ⊥
 no_other_value_yielded r =
-    let (reply, result, gives) = r.run.comes.1.1.1.1.1.1.0.2 in
+    ⊎_elim (λ replied.
+    let (reply, result, gives) = replied in
     ⊎_elim (λ answered.
     let (q, asks, due) = answered in
     let is : reply ≡ Yields (object 5) = yield_due (events_by (object 5) (object 3)) r.asked q (object 5) reply r.are_asked asks due in
-    differ 5 3 refl (yields_one (object 5) (object 3) (sym is ∙ gives))) (λ formed. cc formed.0) result
+    differ 5 3 refl (yields_one (object 5) (object 3) (sym is ∙ gives))) (λ formed. cc formed.0) result) (λ reported. cc reported.0) r.run.comes.1.1.1.1.1.1.0.2
 
 yielded_one : (at at' : ℕ) (v w : Obj) (ts us : List Own) → Yielding at v ∷ ts ≡ Yielding at' w ∷ us → v ≡ w
 yielded_one at at' v w ts us e = cc

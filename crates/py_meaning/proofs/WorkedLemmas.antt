@@ -54,7 +54,7 @@ sum_traced = (refl, (_, refl, inr (inr (2, _, refl, refl, inr (4, got.Value (obj
 
 pub is_run : IsRunOf decls drives objects events
 is_run =
-    call_runs function (pos 33) (pos 12) (payload.Int (pos 45) ∷ []) events refl (tt, tt) sum_fits (front_comes (event.Result 1 (answer.Returns (object 6)) ∷ []) ((refl, refl, (Is (object 6), inl (_, refl, (refl, refl)), refl)), tt))
+    call_runs function (pos 33) (pos 12) (payload.Int (pos 45) ∷ []) events refl (tt, tt) sum_fits (front_comes (event.Result 1 (answer.Returns (object 6)) ∷ []) ((refl, refl, inl (Is (object 6), inl (_, refl, (refl, refl)), refl)), tt))
     (one_tells (Traces (codes_in decls) (object 2) objects) (object 0) (object 3 ∷ object 4 ∷ []) events refl (_, refl, (OfBody function, refl, sum_traced))) (are_named objects events sum_fits refl)
 
 front_tells : EachTells (Traces (codes_in decls) (object 2) objects) unfinished
@@ -144,7 +144,7 @@ second_raises =
             (
               sum_comes function both_plan greatest (pos 1) (error_objects OverflowError (error_entry OverflowError ∷ [])) asking 2 (got.Raise (exception 9)) refl refl refl
                   (overflows function 9 (error_entry OverflowError ∷ []) asking.events refl (refl, (refl, (refl, (refl, (refl, (refl, (refl, (refl, (refl, (refl, (refl, tt)))))))))))),
-              ((refl, refl), ((refl, refl, (Passes (This (exception 9)), inl (_, refl, (refl, refl)), refl)), tt)),
+              ((refl, refl), ((refl, refl, inl (Passes (This (exception 9)), inl (_, refl, (refl, refl)), refl)), tt)),
             ),
           ),
         ),

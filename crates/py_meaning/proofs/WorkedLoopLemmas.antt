@@ -188,7 +188,7 @@ unknown_comes = (
         (refl, refl),
         (
           (refl, (Fails NameError (unknown_text (codes "z")), (Global (object 2) (codes "z"), refl, inl (Fails NameError (unknown_text (codes "z")), refl, refl)), unknown_raised)),
-          ((refl, refl), ((refl, refl, (Passes (This (exception 6)), inl (_, refl, (refl, refl)), refl)), tt)),
+          ((refl, refl), ((refl, refl, inl (Passes (This (exception 6)), inl (_, refl, (refl, refl)), refl)), tt)),
         ),
       ),
     ),

@@ -125,7 +125,7 @@ sum_follows = (
   (refl, refl),
   (
     (refl, (_, (_, refl, inl (_, refl, (_, _, codes "int", codes "int", refl, refl, refl, refl, refl))), refl)),
-    ((refl, refl), ((refl, refl, (Is (object 6), inl (_, refl, (refl, refl)), refl)), tt)),
+    ((refl, refl), ((refl, refl, inl (Is (object 6), inl (_, refl, (refl, refl)), refl)), tt)),
   ),
 )
 
@@ -139,7 +139,7 @@ tells_anything =
 pub is_run : IsRunOf decls drives objects returned
 unfolding own_from told_by
 is_run =
-    run_by returned (entry_comes ended ((refl, refl), ((refl, refl, (Is (object 6), inl (_, refl, (refl, refl)), refl)), tt)))
+    run_by returned (entry_comes ended ((refl, refl), ((refl, refl, inl (Is (object 6), inl (_, refl, (refl, refl)), refl)), tt)))
     (one_tells (Traces (codes_in decls) (object 2) objects) (object 0) (object 3 ∷ object 4 ∷ []) returned refl (_, refl, (OfRaw block, refl, tt)))
     (are_named objects returned all_are_fit refl)
 
@@ -169,5 +169,5 @@ no_other_code r =
 pub no_other_name : IsRunOf decls drives (objects_by (function_entry (codes "g") 0)) returned → ⊥
 no_other_name r = let entry = r.are_objects.functions 0 (OfRaw block) refl in let e = entry.1 in cc
 
-pub not_core : IsCore decls → ⊥
-not_core e = cc e
+pub not_core : IsCore decls drives → ⊥
+not_core e = let all = e.declares in cc all

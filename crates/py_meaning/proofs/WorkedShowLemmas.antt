@@ -62,7 +62,7 @@ comes a r n m =
     let more = payload.Int (pos 45) ∷ payload.None ∷ [] in
     asking_comes function [] (pos 33) (pos 12) more (event.Got 1 (got.Value (object 6)) ∷ shows (object 6) (answered a (ended r))) (lit< tt) (runs _ _ _ _ _ _ _ refl refl refl) refl (
       sum_comes function plan (pos 33) (pos 12) more asking 1 (got.Value (object 6)) refl refl refl refl,
-      ((refl, refl), ((refl, (Has payload.None, (request.Show (object 6), refl, inl (Has payload.None, refl, refl)), n)), ((refl, refl), ((refl, refl, (Is r, inl (_, refl, (refl, refl)), refl)), tt)))),
+      ((refl, refl), ((refl, (Has payload.None, (request.Show (object 6), refl, inl (Has payload.None, refl, refl)), n)), ((refl, refl), ((refl, refl, inl (Is r, inl (_, refl, (refl, refl)), refl)), tt)))),
     )
 
 shown_traced : (a r : Obj) → IsNone r → IsTrace (anywhere objects (object 2)) function (object 3 ∷ object 4 ∷ []) (own_events 1 (events_by (object 6) a r))

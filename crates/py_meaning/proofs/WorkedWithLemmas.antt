@@ -154,7 +154,7 @@ comes = (
                         (refl, (refl, (_, refl, inr (inr (inr (inr (inr (inr (inr (object 2, none_object, none_object, none_object, refl, (_, refl, runs _ _ _ _ _ _ _ refl refl refl))))))))))),
                         (
                           (refl, is_of_kind _ _ _ _ _ _ refl refl refl),
-                          ((refl, refl), ((refl, (Is true_object, (_, refl, refl), refl)), ((refl, refl), ((refl, refl, (Is (object 13), inl (_, refl, (refl, refl)), refl)), tt)))),
+                          ((refl, refl), ((refl, (Is true_object, (_, refl, refl), refl)), ((refl, refl), ((refl, refl, inl (Is (object 13), inl (_, refl, (refl, refl)), refl)), tt)))),
                         ),
                       ),
                     ),

@@ -10,19 +10,22 @@ use Rattle.py_objects.specs.declared.event.Event.TheVariants as event
 use Rattle.py_objects.specs.Objects.{Obj, Name, HasPayload}
 use Rattle.py_grammar.specs.Grammar.{Decl}
 use Rattle.py_lines.specs.declared.drive.DriveLine.{DriveLine}
+use Rattle.py_reports.specs.Scenes.{SourceLines}
 use Rattle.py_meaning.specs.Core.{IsCore}
 use Rattle.py_meaning.specs.Earlier.{NameEarlier}
 use Rattle.py_run.specs.declared.journal.Journal.{Journal}
 use Rattle.py_meaning.specs.Whole.{IsJournalOf}
 
--- two journals of the same declarations and drives, where no declaration is a raw code
+-- two journals of the same declarations and drives, where no declaration is a raw code, and no drive has anything reported
 pub record AreRuns (j j' : Journal) : Type 0 where
   pub decls : List Decl
   pub drives : List DriveLine
-  pub core : IsCore decls
+  pub core : IsCore decls drives
   pub earlier : NameEarlier drives
-  pub is : IsJournalOf decls drives j
-  pub is' : IsJournalOf decls drives j'
+  pub sources : List SourceLines
+  pub sources' : List SourceLines
+  pub is : IsJournalOf decls drives sources j
+  pub is' : IsJournalOf decls drives sources' j'
 
 -- at this place some activation gets this value
 abbrev pub Gets : List Event → ℕ → Obj → Type 0

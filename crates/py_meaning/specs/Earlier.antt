@@ -22,6 +22,7 @@ LineIsEarlier made (drive.Next n) = n ≤ made
 LineIsEarlier made (drive.Send n a) = (n ≤ made) × AtomIsEarlier made a
 LineIsEarlier made (drive.Throw n c v) = (n ≤ made) × ValueIsEarlier made v
 LineIsEarlier made (drive.Close n) = n ≤ made
+LineIsEarlier made (drive.Report n) = n ≤ made
 
 -- each drive names only what those in front of it left
 abbrev pub NameEarlier : List DriveLine → Type 0

@@ -1,10 +1,12 @@
+-- where its codes were written
+pub mod Reported
 -- what a script means
 pub mod Whole
 -- what is written
 pub mod Text
 -- how the entries of declarations come one behind the other
 pub mod Entries
--- which scripts have no raw code
+-- which scripts have no raw code and no report
 pub mod Core
 -- which drives the lines of a script name
 pub mod Earlier

@@ -2,6 +2,7 @@
 use Rattle.std.specs.Prelude.{ℕ, ◌⊎◌, Bool, true, false, if◌then◌else◌, Option, Some, None, List, [], ◌∷◌, ◌++◌, ◌≡◌, slice_get, length, map, take}
 use Rattle.std.specs.List.{AllZip, list_any}
 use Rattle.std.specs.List.Sorted.{IsPermutation}
+use Rattle.py_objects.specs.declared.refs.PyBaseExceptionRef.{PyBaseExceptionRef}
 use Rattle.py_objects.specs.declared.refs.PyTypeRef.{PyTypeRef}
 use Rattle.py_objects.specs.declared.payload.Payload.{Payload}
 use Rattle.py_objects.specs.declared.payload.Payload.TheVariants as payload
@@ -35,12 +36,15 @@ use Rattle.py_grammar.specs.declared.raw_block.RawBlock.{RawBlock}
 use Rattle.py_grammar.specs.declared.raw_block.RawCounts.{RawCounts}
 use Rattle.py_grammar.specs.declared.script.Script.{Script}
 use Rattle.py_grammar.specs.Grammar.{Decl, ClassDecl, ManagerDecl, decl_name, Coded, OfBody, OfRaw, coded_name, codes_in}
-use Rattle.py_grammar.specs.Script.{decls_of, IsScript}
+use Rattle.py_grammar.specs.Script.{decls_of, IsReadScript}
 use Rattle.py_exceptions.specs.BuiltIn.{IsClassOf}
 use Rattle.py_run.specs.declared.journal.Journal.{Journal}
-use Rattle.py_run.specs.Run.{Signature, Pose, Requests, Forms, Posed, Plan}
+use Rattle.py_run.specs.Run.{Signature, Pose, Requests, Forms, Reports, Posed, Plan}
 use Rattle.py_run.specs.Coming.{May, IsRunBy, IsDone}
 use Rattle.py_run.specs.Links.{HasLinks}
+use Rattle.py_run.specs.Reports.{AreReported}
+use Rattle.py_reports.specs.Scenes.{SourceLines}
+use Rattle.py_meaning.specs.Reported.{origins_of, sources_of}
 
 -- what the answer of a drive leaves for `$N`: its value or its exception, None where there is none
 abbrev pub IsLeft : List Payload → DriveAnswer → Obj → Type 0
@@ -81,11 +85,35 @@ AsksThis objects events (drive.Send n a) r = (g : Obj) × (v : Obj) × (r ≡ re
 AsksThis objects events (drive.Throw n x a) r =
     (g : Obj) × (c : Obj) × (v : Obj) × (r ≡ request.Throw g c (Some v) None) × IsLeftBy objects events n g × (declared objects x ≡ Some c) × IsThrown objects events a v
 AsksThis objects events (drive.Close n) r = (g : Obj) × (r ≡ request.Close g) × IsLeftBy objects events n g
+AsksThis objects events (drive.Report n) r = ⊥
 
--- what a drive of a script poses: that request, since none has an exception made
+-- the exception that an answer raises, if it raises one
+abbrev pub raised_in : DriveAnswer → Option PyBaseExceptionRef
+raised_in (answer.Returns v) = None
+raised_in (answer.Yields v) = None
+raised_in (answer.Stops v) = None
+raised_in answer.Closes = None
+raised_in (answer.Raises e) = Some e
+raised_in (answer.Reported text) = None
+
+-- the drive of this number came to an answer that raises this exception, or none
+abbrev pub IsRaisedBy : List Event → ℕ → Option PyBaseExceptionRef → Type 0
+IsRaisedBy events n e = (i : ℕ) × (w : DriveAnswer) × (slice_get events i ≡ Some (event.Result n w)) × (e ≡ raised_in w)
+
+-- what a drive of a script has reported: what the drive of a number raised
+abbrev pub ReportsThis : List Event → DriveLine → Option PyBaseExceptionRef → Type 0
+ReportsThis events (drive.Call f args) e = ⊥
+ReportsThis events (drive.Next n) e = ⊥
+ReportsThis events (drive.Send n a) e = ⊥
+ReportsThis events (drive.Throw n x a) e = ⊥
+ReportsThis events (drive.Close n) e = ⊥
+ReportsThis events (drive.Report n) e = IsRaisedBy events n e
+
+-- what a drive of a script poses: that request or that report, since none has an exception made
 abbrev pub Poses : List Payload → List Event → DriveLine → Pose → Type 0
 Poses objects events d (Requests r) = AsksThis objects events d r
 Poses objects events d (Forms x) = ⊥
+Poses objects events d (Reports e) = ReportsThis events d e
 
 -- the same, made by a host that has entered nothing
 abbrev pub Asks : List Payload → List Event → DriveLine → Posed → Type 0
@@ -222,14 +250,16 @@ pub record IsRunOf (decls : List Decl) (drives : List DriveLine) (objects : List
   pub run : IsRunBy (Traces (codes_in decls) globals objects) (plan_of (codes_in decls) asked) objects events
   pub are_objects : AreObjects decls objects
 
--- the journal is a prefix of a run of these declarations and drives, and nothing changes in it but the links that exceptions get
-pub record IsJournalOf (decls : List Decl) (drives : List DriveLine) (j : Journal) : Type 0 where
+-- the journal is a prefix of a run of these declarations and drives, with these source texts: nothing changes in it but the links that exceptions get,
+-- and each report in it is the one of what its drive has reported
+pub record IsJournalOf (decls : List Decl) (drives : List DriveLine) (sources : List SourceLines) (j : Journal) : Type 0 where
   pub run : IsRunOf decls drives j.objects j.events
   pub links : HasLinks (λ throws. TracesUnder throws (codes_in decls) run.globals j.objects) j
+  pub reports : AreReported (plan_of (codes_in decls) run.asked) (origins_of (codes_in decls) sources) j.objects j.changes [] j.events
 
 -- it is one of a script
 abbrev pub IsRun : Script → Journal → Type 0
-IsRun s j = IsJournalOf (decls_of s) s.drives j
+IsRun s j = IsJournalOf (decls_of s) s.drives (sources_of s.text) j
 
 -- every drive of the script has its result, and nothing runs
 abbrev pub IsWhole : Script → Journal → Type 0
@@ -237,12 +267,12 @@ IsWhole s j = IsDone (length s.drives) j.events
 
 -- the journal is a prefix of a run of the script that the bytes are, whatever codes it has
 abbrev pub IsRunFrom : List ℕ → Journal → Type 0
-IsRunFrom bytes j = (s : Script) × IsScript bytes s × IsRun s j
+IsRunFrom bytes j = (s : Script) × IsReadScript bytes s × IsRun s j
 
 -- a whole one
 abbrev pub IsWholeFrom : List ℕ → Journal → Type 0
-IsWholeFrom bytes j = (s : Script) × IsScript bytes s × IsRun s j × IsWhole s j
+IsWholeFrom bytes j = (s : Script) × IsReadScript bytes s × IsRun s j × IsWhole s j
 
 -- one that isn't whole
 abbrev pub IsUnfinishedFrom : List ℕ → Journal → Type 0
-IsUnfinishedFrom bytes j = (s : Script) × IsScript bytes s × IsRun s j × (IsWhole s j → ⊥)
+IsUnfinishedFrom bytes j = (s : Script) × IsReadScript bytes s × IsRun s j × (IsWhole s j → ⊥)

@@ -109,12 +109,12 @@ journal k changes = record { events = events; objects = objects; changes = chang
 
 -- it is one of the script, whatever codes have those lines
 abbrev pub AreItsChanges : List Change → Type 0
-AreItsChanges changes = (k : Codes) → HasLines k → IsJournalOf decls drives (journal k changes)
+AreItsChanges changes = (k : Codes) → HasLines k → IsJournalOf decls drives [] (journal k changes)
 
 -- it is none
 abbrev pub AreNotItsChanges : List Change → Type 0
-AreNotItsChanges changes = (k : Codes) → HasLines k → IsJournalOf decls drives (journal k changes) → ⊥
+AreNotItsChanges changes = (k : Codes) → HasLines k → IsJournalOf decls drives [] (journal k changes) → ⊥
 
 -- nor is it with its own changes, where the code has another line
 abbrev pub NeedsTheLine : Type 0
-NeedsTheLine = (k : Codes) → lines_in k 0 1 ≡ Some 2 → IsJournalOf decls drives (journal k links) → ⊥
+NeedsTheLine = (k : Codes) → lines_in k 0 1 ≡ Some 2 → IsJournalOf decls drives [] (journal k links) → ⊥

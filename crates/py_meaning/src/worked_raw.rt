@@ -43,6 +43,6 @@ pub fn worked_raws()
     // What it tells isn't said here: the run of a body that asks for a sum is taken too. Therefore the law of two runs is of
     // core scripts, and this is none.
     ensures tells_anything { IsRunOf decls drives objects events }
-    ensures is_not_core { IsCore decls → ⊥ }
-    ensures is_core { IsCore core_decls }
+    ensures is_not_core { IsCore decls drives → ⊥ }
+    ensures is_core { IsCore core_decls drives }
 {}

@@ -9,3 +9,7 @@ mod EntriesLemmas
 mod LinesLemmas
 -- reports that are worked by hand
 mod WorkedLemmas
+-- reports of journals as these go on: among more objects, and with the same paths and names in another table
+pub mod ClosedLemmas
+pub mod GrowthLemmas
+pub mod AlikeLemmas

@@ -6,7 +6,7 @@ use Rattle.std.proofs.lemmas.Bool.Decides.{nat_tests}
 use Rattle.std.proofs.lemmas.List.{drop_all, drop_more}
 use Rattle.py_objects.specs.Objects.{Name}
 use Rattle.py_reports.specs.Lines.{line_begun, lines_of, put_before, put_first, without_ends}
-use Rattle.py_reports.specs.Met.{one_line, without_return}
+use Rattle.py_reports.specs.Inside.{one_line, without_return}
 
 -- whether a text has a line feed
 abbrev pub has_end : Name → Bool

@@ -14,14 +14,11 @@ use Rattle.py_objects.proofs.Slots.{there}
 use Rattle.py_objects.specs.declared.edit.LinkField.TheVariants as link
 use Rattle.py_exceptions.specs.Walks.{led, link_in, on_link}
 use Rattle.py_exceptions.specs.Orders.{IsOrder}
+use Rattle.py_exceptions.proofs.WalksLemmas.{same_object}
 use Rattle.py_reports.specs.declared.order.Way.{Way}
 use Rattle.py_reports.specs.declared.order.Way.TheVariants as way
 use Rattle.py_reports.specs.Chains.{before_in}
-use Rattle.py_reports.specs.Met.{step_at}
-
--- objects with one number are one
-same_object : (v w : Obj) → v.number ≡ w.number → v ≡ w
-same_object v w e = ap (λ (n : ℕ). let o : Obj = record { number = n } in o) e
+use Rattle.py_reports.specs.Inside.{step_at}
 
 -- ---- the numbers of the objects that were met
 

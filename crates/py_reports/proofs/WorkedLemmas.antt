@@ -1,15 +1,18 @@
 -- Reports that are worked by hand.
 use Rattle.std.proofs.Common.{◌≡◌, ℕ, zero, suc, ◌<◌, ◌⊎◌, inl, inr, List, [], ◌∷◌, ◌++◌, Some, get_or, length, refl, sym, ap, ◌∙◌, arith}
-use Rattle.std.specs.Prelude.{Option, None, codes, decimal, slice_get}
+use Rattle.std.specs.Prelude.{Option, None, chars, codes, decimal, slice_get}
 use Rattle.std.proofs.lemmas.Fmt.{decimal_digit}
 use Rattle.std.proofs.lemmas.Option.{same_Some}
+use Rattle.std.proofs.lemmas.Str.{chars-encodes}
 use Rattle.py_objects.specs.declared.edit.LinkField.TheVariants as link
 use Rattle.py_objects.specs.Objects.{Obj}
 use Rattle.py_exceptions.specs.Walks.{led, link_at, on_link}
 use Rattle.py_exceptions.specs.Orders.{IsOrder}
 use Rattle.py_reports.specs.Chains.{before_at}
+use Rattle.py_reports.specs.Lines.{without_ends}
 use Rattle.py_reports.specs.Reports.{IsReport}
-use Rattle.py_reports.specs.Worked.{after_its_cause, after_its_context, caused, caused_by_itself, first, followed, last, last_alone, object, round, suppressed, traced, with_traceback}
+use Rattle.py_reports.specs.SyntaxLines.{trimmed_line}
+use Rattle.py_reports.specs.Worked.{after_its_cause, after_its_context, caused, caused_by_itself, first, followed, last, last_alone, misread, object, round, suppressed, traced, with_its_line, with_misread, with_traceback}
 use Rattle.py_reports.proofs.ReportsLemmas.{one_report}
 
 -- a walk that ends at once, or comes back at once
@@ -95,6 +98,25 @@ with_entry = (
     two =
         ap (λ (digits : List ℕ). codes "Traceback (most recent call last):\n  File \"<script>\", line " ++ (((digits ++ codes ", in f\n    raise e\n") ++ []) ++ codes "ValueError: b\n"))
         (sym (decimal_digit 2 (omega arith)))
+
+pub shows_its_line : IsReport with_misread misread with_its_line
+unfolding lib.Utf8.encode
+shows_its_line = (
+  _,
+  (misread ∷ [], one_met (before_at with_misread.objects) misread (inl refl), refl),
+  ([], _, refl, (_, ([], refl, refl), refl), lines),
+)
+  where
+    -- the number of the line, and the characters of its text
+    shown : List ℕ → List ℕ → List ℕ
+    shown digits text =
+        codes "  File \"f.py\", line " ++ (digits ++ codes "\n")
+        ++ trimmed_line (without_ends text) 7 0 ++ codes "SyntaxError: invalid syntax\n"
+
+    lines : with_its_line ≡ shown (decimal 3) (chars (codes "  x = = 1\n"))
+    lines =
+        ap (λ (digits : List ℕ). shown digits (codes "  x = = 1\n")) (sym (decimal_digit 3 (omega arith)))
+        ∙ ap (shown (decimal 3)) (sym (chars-encodes (codes "  x = = 1\n") refl))
 
 pub stops_early : IsReport caused last last_alone → ⊥
 stops_early short =

@@ -17,13 +17,15 @@ pieces_text (text ∷ texts) = encode_utf8_all text ++ pieces_text texts
 
 -- the pieces of all steps over one scene are the whole report
 abbrev pub IsTold : Type 0
-IsTold = (scene : Scene) (exc : PyBaseExceptionRef) (texts : List Name) → ArePieces scene (stage.New exc) texts → IsReport scene (as_object exc) (pieces_text texts)
+IsTold =
+    (scene : Scene) (exc : PyBaseExceptionRef) (texts : List Name) → ArePieces scene (stage.New exc) texts
+    → IsReport scene (as_object exc) (pieces_text texts)
 
 -- two places in a report have different exceptions
 abbrev pub OneStandsOnce : Type 0
 OneStandsOnce =
-    (objects : List Payload) (v : Obj) (cs : List Chained) (i j : ℕ) (c d : Chained) → IsChain objects v cs → slice_get cs i ≡ Some c → slice_get cs j ≡ Some d
-    → c.exception ≡ d.exception → i ≡ j
+    (objects : List Payload) (v : Obj) (cs : List Chained) (i j : ℕ) (c d : Chained) → IsChain objects v cs
+    → slice_get cs i ≡ Some c → slice_get cs j ≡ Some d → c.exception ≡ d.exception → i ≡ j
 
 -- of one exception there is one report, where nothing changes
 abbrev pub OneReport : Type 0

@@ -12,6 +12,6 @@ pub mod Reports
 pub mod Steps
 pub mod Laws
 -- what functions inside the crate promise each other
-pub mod Met
+pub mod Inside
 -- reports that are worked by hand
 pub mod Worked

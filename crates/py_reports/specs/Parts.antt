@@ -36,6 +36,10 @@ end_of_line objects (Some e) = syntax_end objects e
 abbrev pub said_with : List Payload → Option ExceptionBody → Option Payload → List ℕ
 said_with objects error p = lines_before objects error ++ (raised objects p ++ (end_of_line objects error ++ codes "\n"))
 
+-- the same of a SyntaxError
+abbrev pub syntax_error_text : List Payload → PyBaseExceptionRef → ExceptionBody → List ℕ
+syntax_error_text objects exc e = said_with objects (Some e) (payload_of objects (as_object exc))
+
 -- the same of an object
 abbrev pub said_at : List Payload → Obj → List ℕ
 said_at objects v = said_with objects (syntax_error_at objects v) (payload_of objects v)

@@ -1,7 +1,7 @@
 -- The report of an exception: it, and those before it, the one that came first at the top (Python Language Reference, 7.8).
-use Rattle.std.specs.Prelude.{ℕ, List, [], ◌∷◌, ◌++◌, ◌≡◌, codes, String, string_bytes}
+use Rattle.std.specs.Prelude.{ℕ, List, [], ◌∷◌, ◌++◌, ◌≡◌, codes, encode_utf8_all}
 use Rattle.py_objects.specs.declared.refs.PyBaseExceptionRef.{PyBaseExceptionRef}
-use Rattle.py_objects.specs.Objects.{Obj, as_object}
+use Rattle.py_objects.specs.Objects.{Obj, Name, as_object}
 use Rattle.py_reports.specs.declared.chain.Chained.{Chained}
 use Rattle.py_reports.specs.declared.chain.Sentence.{Sentence}
 use Rattle.py_reports.specs.declared.chain.Sentence.TheVariants as sentence
@@ -28,6 +28,6 @@ IsText scene (c ∷ cs) text = (before : List ℕ) × (piece : List ℕ) × IsTe
 abbrev pub IsReport : Scene → Obj → List ℕ → Type 0
 IsReport scene v text = (cs : List Chained) × IsChain scene.objects v cs × IsText scene cs text
 
--- this string is the report of an exception
-abbrev pub IsReportString : {Z : Type 0} → Scene → PyBaseExceptionRef → String Z → Type 0
-IsReportString scene exc string = IsReport scene (as_object exc) (string_bytes string)
+-- this text is the report of an exception
+abbrev pub IsReportText : Scene → PyBaseExceptionRef → Name → Type 0
+IsReportText scene exc text = IsReport scene (as_object exc) (encode_utf8_all text)

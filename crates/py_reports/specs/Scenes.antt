@@ -5,6 +5,7 @@ use Rattle.py_objects.specs.declared.payload.Payload.{Payload}
 use Rattle.py_objects.specs.declared.payload.Payload.TheVariants as payload
 use Rattle.py_objects.specs.declared.refs.FrameRef.{FrameRef}
 use Rattle.py_objects.specs.Objects.{Name}
+use Rattle.py_objects.specs.Refs.{frame_object}
 use Rattle.py_objects.specs.Edits.{objects_of, Kept}
 use Rattle.py_exceptions.specs.Repr.{payload_of}
 use Rattle.py_reports.specs.declared.place.Place.{Place}
@@ -65,4 +66,4 @@ place_in places _ = None
 
 -- the same of a frame, as an object
 abbrev pub place_of : Scene → FrameRef → Option Place
-place_of scene frame = place_in scene.places (payload_of scene.objects (record { number = frame.number }))
+place_of scene frame = place_in scene.places (payload_of scene.objects (frame_object frame))

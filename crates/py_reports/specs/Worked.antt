@@ -1,7 +1,8 @@
--- Reports of two exceptions that are worked by hand.
-use Rattle.std.specs.Prelude.{ℕ, Option, Some, None, List, [], ◌∷◌, Bool, true, false, codes}
+-- Reports of exceptions that are worked by hand.
+use Rattle.std.specs.Prelude.{ℕ, pos, Option, Some, None, List, [], ◌∷◌, Bool, true, false, codes}
 use Rattle.py_objects.specs.declared.payload.Payload.{Payload}
 use Rattle.py_objects.specs.declared.payload.Payload.TheVariants as payload
+use Rattle.py_objects.specs.Attrs.{Attrs}
 use Rattle.py_objects.specs.Objects.{Obj}
 use Rattle.py_objects.specs.Values.{new_exception}
 use Rattle.py_reports.specs.Scenes.{source_of, Scene}
@@ -32,8 +33,9 @@ error args cause context suppress traceback = payload.Exception (record (new_exc
 -- both exceptions, and what their tracebacks need
 abbrev pub objects_of : Payload → Payload → List Payload → List Payload
 objects_of a b more =
-    payload.None ∷ payload.Class (record { name = codes "ValueError"; mro = [] }) ∷ payload.Str (codes "a") ∷ payload.Tuple (object 2 ∷ []) ∷ payload.Str (codes "b")
-    ∷ payload.Tuple (object 4 ∷ []) ∷ a ∷ b ∷ more
+    payload.None ∷ payload.Class (record { name = codes "ValueError"; mro = [] })
+    ∷ payload.Str (codes "a") ∷ payload.Tuple (object 2 ∷ []) ∷ payload.Str (codes "b") ∷ payload.Tuple (object 4 ∷ [])
+    ∷ a ∷ b ∷ more
 
 -- an exception without links
 abbrev pub plain : ℕ → Payload
@@ -75,6 +77,23 @@ traced = record {
   sources = source_of (codes "<script>") (codes "def f\n  raise e\r\nend\n") ∷ [];
 }
 
+-- ---- a SyntaxError
+
+-- it is the object 8, after its class, its arguments, and the values of its attributes
+abbrev pub misread : Obj
+misread = object 8
+
+-- the file, the line and its text, and the column of the second =
+abbrev pub where_misread : Attrs
+where_misread = (codes "filename", object 4) ∷ (codes "lineno", object 5) ∷ (codes "text", object 6) ∷ (codes "offset", object 7) ∷ []
+
+-- it was found in a file
+abbrev pub with_misread : Scene
+with_misread = without_codes
+    (payload.None ∷ payload.Class (record { name = codes "SyntaxError"; mro = [] })
+    ∷ payload.Str (codes "invalid syntax") ∷ payload.Tuple (object 2 ∷ []) ∷ payload.Str (codes "f.py") ∷ payload.Int (pos 3) ∷ payload.Str (codes "  x = = 1\n") ∷ payload.Int (pos 7)
+    ∷ payload.Exception (record (new_exception (record { number = 1 }) (object 3)) { attrs = where_misread }) ∷ [])
+
 -- ---- what is printed
 
 -- the one that is reported, and no other
@@ -92,3 +111,7 @@ after_its_context = codes "ValueError: a\n\nDuring handling of the above excepti
 -- the one that is reported, with its traceback
 abbrev pub with_traceback : List ℕ
 with_traceback = codes "Traceback (most recent call last):\n  File \"<script>\", line 2, in f\n    raise e\nValueError: b\n"
+
+-- the SyntaxError, with the line where it was found
+abbrev pub with_its_line : List ℕ
+with_its_line = codes "  File \"f.py\", line 3\n    x = = 1\n        ^\nSyntaxError: invalid syntax\n"

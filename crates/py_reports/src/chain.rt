@@ -1,14 +1,12 @@
 //! The exceptions of a report in order, each with the sentence before it.
 
-ghost use Rattle.std.specs.Prelude.{◌≡◌, [], ◌∷◌, ◌++◌, is_some, IfOk, IfSome, IfNone, OnOk, OnErr};
-ghost use Rattle.py_objects.specs.declared.edit.LinkField.TheVariants.{Cause as CauseLink};
-ghost use Rattle.py_exceptions.specs.Walks.{link_at};
+ghost use Rattle.std.specs.Prelude.{◌≡◌, [], ◌∷◌, ◌++◌, IfOk, IfSome, IfNone, OnOk, OnErr};
 ghost use Rattle.py_reports.specs.Chains.{chained, sentence_at, IsChain, IsLast};
 
 use crate::order::{Way, order};
 use py_code::NoMemory;
-use py_exceptions::payload_at;
-use py_objects::{Payload, PyObjectRef};
+use py_exceptions::link_at;
+use py_objects::{LinkField, Payload, PyObjectRef};
 use std::alloc::Global;
 use std::marker::Model;
 
@@ -114,26 +112,12 @@ fn chain_up(alloc: Global, objects: &[Payload], met: &[PyObjectRef]) -> Result<C
 fn sentence_before(objects: &[Payload], exception: PyObjectRef, above: &[PyObjectRef]) -> Sentence
     ensures { result ≡ sentence_at objects.now exception above.now }
 {
-    match above {
-        [] => Sentence::Nothing,
-        _ => {
-            if has_cause(objects, exception) {
-                Sentence::Cause
-            } else {
-                Sentence::Context
-            }
-        }
+    if above.is_empty() {
+        return Sentence::Nothing;
     }
-}
-
-fn has_cause(objects: &[Payload], exception: PyObjectRef) -> bool
-    ensures { result ≡ is_some (link_at CauseLink objects.now exception) }
-{
-    let Some(payload) = payload_at(objects, exception) else {
-        return false;
-    };
-    match payload {
-        Payload::Exception(body) => body.value().cause.is_some(),
-        _ => false,
+    if link_at(objects, LinkField::Cause, exception).is_some() {
+        Sentence::Cause
+    } else {
+        Sentence::Context
     }
 }

@@ -2,7 +2,7 @@
 
 ghost use Rattle.std.specs.Prelude.{◌≡◌, IfOk};
 ghost use Rattle.py_exceptions.specs.Writing.{Adds};
-ghost use Rattle.py_reports.specs.Met.{HasBytes};
+ghost use Rattle.py_reports.specs.Inside.{HasBytes};
 ghost use Rattle.py_reports.specs.SyntaxLines.{attribute_text, found_end, found_line, found_of};
 
 use crate::lines::push_words;

@@ -15,15 +15,16 @@ mod source;
 mod stage;
 mod syntax;
 mod traceback;
+mod whole;
 mod worked;
-mod write;
 
 pub use chain::{Chain, Chained, Sentence};
 pub use laws::laws_of_reports;
 pub use part::part_of;
 pub use place::{Place, Places};
 pub use report::Report;
+pub use scene::Scene;
 pub use source::{Source, Sources};
 pub use stage::{ReportStep, Stage};
+pub use whole::report_of;
 pub use worked::worked_reports;
-pub use write::write_report;

@@ -1,12 +1,12 @@
 //! The lines of texts.
 
-ghost use Rattle.std.specs.Prelude.{◌≡◌, ◌≤◌, ◌++◌, IfOk, OnOk, length, option_copied, encode_utf8_all};
+ghost use Rattle.std.specs.Prelude.{◌≡◌, ◌≤◌, ◌++◌, IfOk, OnOk, length, option_copied, encode_utf8_all, string_bytes};
 ghost use Rattle.py_exceptions.specs.Repr.{has};
 ghost use Rattle.py_exceptions.specs.Writing.{Adds};
 ghost use Rattle.py_reports.specs.Lines.{line_at as line_of_number, lines_of as lines_of_text, without_ends as without_line_feeds, without_front};
-ghost use Rattle.py_reports.specs.Met.{one_line, without_return as without_carriage_return};
+ghost use Rattle.py_reports.specs.Inside.{one_line, without_return as without_carriage_return};
 
-use py_code::{ItemList, NoMemory, PyText};
+use py_code::{ItemList, NoMemory, PyText, text_of_str};
 use std::alloc::Global;
 
 /// Texts in order.
@@ -117,4 +117,11 @@ pub(crate) fn push_words(out: &mut String, words: &str) -> Result<(), NoMemory>
 {
     out.push_str(words)?;
     Ok(())
+}
+
+/// The characters of a string.
+pub(crate) fn text_in(alloc: Global, string: &String) -> Result<PyText, NoMemory>
+    ensures { IfOk result (λ text. encode_utf8_all text ≡ string_bytes string.now) }
+{
+    text_of_str(alloc, string.as_str())
 }

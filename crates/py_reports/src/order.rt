@@ -1,15 +1,14 @@
 //! Walks along links, each object once.
 
-ghost use Rattle.std.specs.Prelude.{◌≡◌, IfOk, Some};
+ghost use Rattle.std.specs.Prelude.{◌≡◌, IfOk};
 ghost use Rattle.py_exceptions.specs.Orders.{IsOrder};
-ghost use Rattle.py_exceptions.specs.Walks.{next_of};
-ghost use Rattle.py_reports.specs.Chains.{before_in};
-ghost use Rattle.py_reports.specs.Met.{step_at};
+ghost use Rattle.py_reports.specs.Chains.{before_at};
+ghost use Rattle.py_reports.specs.Inside.{step_at};
 
 use indexmap::IndexSet;
 use py_code::NoMemory;
-use py_exceptions::payload_at;
-use py_objects::{ObjList, Payload, PyObjectRef};
+use py_exceptions::{link_at, payload_at};
+use py_objects::{LinkField, ObjList, Payload, PyObjectRef};
 use std::alloc::Global;
 
 /// What a walk follows.
@@ -47,37 +46,19 @@ pub(crate) fn order(
 fn follow(objects: &[Payload], way: Way, object: PyObjectRef) -> Option<PyObjectRef>
     ensures { result ≡ step_at way objects.now object }
 {
-    let Some(payload) = payload_at(objects, object) else {
-        return None;
-    };
     match way {
-        Way::Before => before(payload),
-        Way::Next => next(payload),
+        Way::Before => before(objects, object),
+        Way::Next => link_at(objects, LinkField::Next, object),
     }
 }
 
 /// The exception that is reported before one.
-fn before(payload: &Payload) -> Option<PyObjectRef>
-    ensures { result ≡ before_in (Some payload.now) }
+fn before(objects: &[Payload], exception: PyObjectRef) -> Option<PyObjectRef>
+    ensures { result ≡ before_at objects.now exception }
 {
-    match payload {
-        Payload::Exception(body) => {
-            let body = body.value();
-            if body.cause.is_some() {
-                return body.cause;
-            }
-            if body.suppress { None } else { body.context }
-        }
-        _ => None,
+    let body = payload_at(objects, exception).and_then(Payload::exception)?;
+    if body.cause.is_some() {
+        return body.cause;
     }
-}
-
-/// The entry after one.
-fn next(payload: &Payload) -> Option<PyObjectRef>
-    ensures { result ≡ next_of payload.now }
-{
-    match payload {
-        Payload::Traceback(body) => body.next,
-        _ => None,
-    }
+    if body.suppress { None } else { body.context }
 }

@@ -1,15 +1,14 @@
 //! The report of an exception, step by step.
 
 ghost use Rattle.std.specs.Prelude.{◌≡◌, IfOk, OnErr};
-ghost use Rattle.py_reports.specs.Met.{Advances, IsTaken};
-ghost use Rattle.py_reports.specs.Met.{AddsSome};
+ghost use Rattle.py_reports.specs.Inside.{AddsSome, Advances, IsTaken};
 ghost use Rattle.py_reports.specs.Reports.{sentence_text, IsPiece};
-ghost use Rattle.py_reports.specs.Scenes.{scene_of};
-ghost use Rattle.py_reports.specs.Steps.{IsStep};
+ghost use Rattle.py_reports.specs.Steps.{IsStepIn};
 ghost use Rattle.py_reports.specs.declared.stage.Stage.TheVariants.{New};
 
 use crate::chain::{Chain, Chained, Sentence, chain_of};
-use crate::part::{push_part, text_in};
+use crate::lines::text_in;
+use crate::part::push_part;
 use crate::place::Places;
 use crate::scene::Scene;
 use crate::source::Sources;
@@ -55,9 +54,9 @@ impl Report {
         sources: &Sources,
         _text: Option<PyText>,
     ) -> ReportStep
-        ensures { IsStep (scene_of store.now names.now places.now sources.now) self.old result self.new }
+        ensures { IsStepIn store.now names.now places.now sources.now self.old result self.new }
     {
-        let scene = Scene::new(store.objects(), names, places, sources);
+        let scene = Scene::new(store, names, places, sources);
         match self.advance(&scene) {
             Ok(Some(piece)) => ReportStep::Piece(piece),
             Ok(None) => ReportStep::Done,

@@ -1,18 +1,18 @@
 //! What reports are made of, together.
 
 ghost use Rattle.std.specs.Prelude.{◌≡◌};
-ghost use Rattle.py_reports.specs.Scenes.{name_at, name_in, path_in, place_of, scene_with};
+ghost use Rattle.py_reports.specs.Scenes.{name_at, name_in, path_in, place_of, scene_of};
 
 use crate::place::{Place, Places};
 use crate::source::{Source, Sources};
 use py_code::{NameId, Names};
 use py_exceptions::payload_at;
-use py_objects::{FrameRef, Payload, PyObjectRef};
+use py_objects::{FrameRef, Payload, PyObjectRef, Store};
 use std::marker::Model;
 
 /// Objects, the table of names, the places of codes, and source texts.
 #[derive(Drop)]
-pub(crate) struct Scene<'a> {
+pub struct Scene<'a> {
     objects: &'a [Payload],
     names: &'a Names,
     places: &'a Places,
@@ -28,16 +28,17 @@ impl<'a> Model for Scene<'a> {
 }
 
 impl<'a> Scene<'a> {
-    pub(crate) fn new(
-        objects: &'a [Payload],
+    /// The objects of a store as they are now, with these names, places and texts.
+    pub fn new(
+        store: &'a Store,
         names: &'a Names,
         places: &'a Places,
         sources: &'a Sources,
     ) -> Scene<'a>
-        ensures { result ≡ scene_with objects.now names.now places.now sources.now }
+        ensures { result ≡ scene_of store.now names.now places.now sources.now }
     {
         Scene {
-            objects,
+            objects: store.objects(),
             names,
             places,
             sources,
@@ -60,19 +61,11 @@ impl<'a> Scene<'a> {
     pub(crate) fn place_of(&self, frame: FrameRef) -> Option<Place>
         ensures { result ≡ place_of self.now frame }
     {
-        let payload = payload_at(
-            self.objects,
-            PyObjectRef {
-                number: frame.number,
-            },
-        );
-        let Some(payload) = payload else {
+        let payload = payload_at(self.objects, PyObjectRef::from(frame))?;
+        let Payload::Frame(code) = payload else {
             return None;
         };
-        match payload {
-            Payload::Frame(code) => self.places.get(*code as usize).copied(),
-            _ => None,
-        }
+        self.places.get(*code as usize).copied()
     }
 
     /// The path of a code.

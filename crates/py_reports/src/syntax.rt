@@ -1,38 +1,32 @@
-//! What is printed of a SyntaxError beside its class and its arguments.
+//! What is printed of a SyntaxError.
 
 ghost use Rattle.std.specs.Prelude.{◌≡◌};
 ghost use Rattle.py_exceptions.specs.Writing.{Adds};
-ghost use Rattle.py_reports.specs.SyntaxLines.{column_at as column_of_object, column_by, shown_text, syntax_end, syntax_lines};
+ghost use Rattle.py_reports.specs.SyntaxLines.{column_at as column_of_object, column_by, shown_text};
+ghost use Rattle.py_reports.specs.Parts.{syntax_error_text};
 
 use crate::caret::push_trimmed;
 use crate::found::{Found, str_of_attribute};
-use crate::lines::without_ends;
+use crate::lines::{push_words, without_ends};
 use py_code::{NoMemory, text_of_str};
-use py_exceptions::{attribute, payload_at};
-use py_objects::{ExceptionBody, Payload, PyObjectRef};
+use py_exceptions::{attribute, payload_at, push_raised};
+use py_objects::{ExceptionBody, Payload, PyBaseExceptionRef, PyObjectRef};
 
-/// Puts after a text what stands before the last line: where the error was found, and its text.
-pub(crate) fn push_syntax_lines(
+/// Puts a SyntaxError after a text: where it was found and its text, its class with what it says, and its file where it has no line.
+pub(crate) fn push_syntax_error(
     out: &mut String,
     objects: &[Payload],
-    exception: &ExceptionBody,
+    raised: PyBaseExceptionRef,
+    body: &ExceptionBody,
 ) -> Result<(), NoMemory>
-    ensures { Adds result out.old out.new (syntax_lines objects.now exception.now) }
+    ensures { Adds result out.old out.new (syntax_error_text objects.now raised body.now) }
 {
-    let found = Found::of(*out.allocator(), objects, exception)?;
+    let found = Found::of(*out.allocator(), objects, body)?;
     found.push_line(out)?;
-    push_shown_text(out, objects, exception)
-}
-
-/// Puts after a text what ends the last line: the file, where there is no line.
-pub(crate) fn push_syntax_end(
-    out: &mut String,
-    objects: &[Payload],
-    exception: &ExceptionBody,
-) -> Result<(), NoMemory>
-    ensures { Adds result out.old out.new (syntax_end objects.now exception.now) }
-{
-    Found::of(*out.allocator(), objects, exception)?.push_end(out)
+    push_shown_text(out, objects, body)?;
+    push_raised(out, objects, raised)?;
+    found.push_end(out)?;
+    push_words(out, "\n")
 }
 
 /// Puts the lines of a SyntaxError's text after a text, where it has one.

@@ -1,8 +1,6 @@
 //! Tracebacks as they are printed (Python Language Reference, 4.2).
 
 ghost use Rattle.std.specs.Prelude.{◌≡◌, [], IfOk, option_copied};
-ghost use Rattle.py_objects.specs.declared.edit.LinkField.TheVariants.{Traceback as TracebackLink};
-ghost use Rattle.py_exceptions.specs.Walks.{link_at};
 ghost use Rattle.py_exceptions.specs.Writing.{Adds};
 ghost use Rattle.py_reports.specs.Entries.{entries_text, entry_at, file_line, place_text, placed_text, source_line, traceback_text, HasEntries};
 
@@ -15,19 +13,6 @@ use py_code::{NoMemory, PyText};
 use py_exceptions::payload_at;
 use py_objects::{ObjList, Payload, PyObjectRef};
 use std::alloc::Global;
-
-/// The traceback of an exception.
-pub(crate) fn traceback_of(objects: &[Payload], exception: PyObjectRef) -> Option<PyObjectRef>
-    ensures { result ≡ link_at TracebackLink objects.now exception }
-{
-    let Some(payload) = payload_at(objects, exception) else {
-        return None;
-    };
-    match payload {
-        Payload::Exception(body) => body.value().traceback,
-        _ => None,
-    }
-}
 
 /// The entries of a traceback, each once.
 pub(crate) fn entries_of(
@@ -51,13 +36,11 @@ pub(crate) fn push_traceback(
 ) -> Result<(), NoMemory>
     ensures { Adds result out.old out.new (traceback_text scene.now entries.now) }
 {
-    match entries {
-        [] => Ok(()),
-        _ => {
-            out.push_str("Traceback (most recent call last):\n")?;
-            push_entries(out, scene, entries)
-        }
+    if entries.is_empty() {
+        return Ok(());
     }
+    out.push_str("Traceback (most recent call last):\n")?;
+    push_entries(out, scene, entries)
 }
 
 fn push_entries(out: &mut String, scene: &Scene, entries: &[PyObjectRef]) -> Result<(), NoMemory>
@@ -75,12 +58,10 @@ fn push_entry(out: &mut String, scene: &Scene, entry: PyObjectRef) -> Result<(),
     let Some(payload) = payload_at(scene.objects(), entry) else {
         return Ok(());
     };
-    match payload {
-        Payload::Traceback(body) => {
-            push_placed(out, scene, scene.place_of(body.frame), body.lineno)
-        }
-        _ => Ok(()),
-    }
+    let Payload::Traceback(body) = payload else {
+        return Ok(());
+    };
+    push_placed(out, scene, scene.place_of(body.frame), body.lineno)
 }
 
 fn push_placed(

@@ -240,7 +240,8 @@ module _ (plan : Plan) (ys : List Signature) (objects : List Payload) (signed : 
 
   -- an event that may come still may
   may_come_signed : (p : Past) (e : Event) → MayCome plan objects p e → MayCome (signed_by plan ys) objects p e
-  may_come_signed p (event.Result d w) (next, alone, (reply, answered, gives)) = (next, alone, (reply, result_signed p reply answered, gives))
+  may_come_signed p (event.Result d w) (next, alone, inl (reply, answered, gives)) = (next, alone, inl (reply, result_signed p reply answered, gives))
+  may_come_signed p (event.Result d w) (next, alone, inr reported) = (next, alone, inr reported)
   may_come_signed p (event.Make a f vs) (next, opens) = (next, opens_signed p (Enters f vs) opens)
   may_come_signed p (event.Resume a h) enters = entered_signed p h a enters
   may_come_signed p (event.Got a w) (top, (reply, answered, gives)) = (top, (reply, answered_signed p reply answered, gives))

@@ -150,7 +150,7 @@ module _ (signatures : List Signature) (asked : List Posed) (more : List Payload
     (refl, refl, omega arith),
     (
       (refl, (refl, (_, refl, call_is _ _ _ _ _ _ _ refl refl refl))),
-      ((refl, refl, (_, inl (_, refl, (coro.Generator, record { body = _; entry = refl; signature = _; signed = refl; kind_is = refl }, refl)), (new, refl))), comes),
+      ((refl, refl, inl (_, inl (_, refl, (coro.Generator, record { body = _; entry = refl; signature = _; signed = refl; kind_is = refl }, refl)), (new, refl))), comes),
     ),
   )
 
@@ -169,7 +169,7 @@ module _ (signatures : List Signature) (asked : List Posed) (more : List Payload
           (refl, (_, refl, send_is _ _ _ _ generator_body _ _ _ refl refl refl refl)),
           (
             (refl, refl),
-            ((refl, refl, (Yields (object 3), inl (_, refl, (generator_body, refl, _, refl, refl)), refl)), comes),
+            ((refl, refl, inl (Yields (object 3), inl (_, refl, (generator_body, refl, _, refl, refl)), refl)), comes),
           ),
         ),
       )

@@ -8,6 +8,9 @@ pub mod MoreLinks
 pub mod TracebackLemmas
 pub mod NoLinks
 pub mod AddedLinks
+-- its reports
+pub mod ReportsLemmas
+pub mod GrownReports
 -- which numbers events name
 pub mod NamedLemmas
 -- a run as objects and drives grow, and as an event comes

@@ -29,7 +29,7 @@ use Rattle.py_answers.proofs.ThrownLemmas.{normalizes_grow}
 use Rattle.py_exceptions.proofs.TypeNamesLemmas.{type_name_grows}
 use Rattle.py_run.specs.declared.drive.Makings.{Makings}
 use Rattle.py_run.specs.Normalized.{NormalizesTo}
-use Rattle.py_run.specs.Run.{Posed, Plan, Phase, Idle, Asking, Going, Made, Due, State, after, open_in, makings_of, entered_in, question, handled_among}
+use Rattle.py_run.specs.Run.{Posed, Plan, Phase, Idle, Asking, Going, Made, Due, State, after, open_in, makings_of, to_report_by, entered_in, question, handled_among}
 use Rattle.py_run.specs.Generators.{Generator, answered, value_of, returned_by}
 use Rattle.py_run.specs.Calls.{Course, Says, Enters, Begins, Sends, Throws, Setting, CallsFunction, IsKept, ThrowsAs, SendsTo, ThrowsTo, ClosesTo, EntersTo, ExitsTo, exit_of, ComesTo, LeavesGenerator, IsDue}
 use Rattle.py_run.specs.Coming.{Past, nothing, past_after, setting, IsOfKind, Opens, Starts, IsEntered, MakesGenerator, IsReply, IsAnswered, IsFormed, MayCome, Comes}
@@ -188,8 +188,9 @@ result_grows plan objects objects' p reply grows (inr (asks, (x, forms, is))) = 
 
 -- an event that may come still may
 pub may_come_grow : (plan : Plan) (objects objects' : List Payload) (p : Past) (e : Event) → GrowsPlainly objects objects' → MayCome plan objects p e → MayCome plan objects' p e
-may_come_grow plan objects objects' p (event.Result d w) grows (next, alone, (reply, answered, gives)) =
-    (next, alone, (reply, result_grows plan objects objects' p reply grows answered, gives_drive_grow objects objects' p.events reply w grows gives))
+may_come_grow plan objects objects' p (event.Result d w) grows (next, alone, inl (reply, answered, gives)) =
+    (next, alone, inl (reply, result_grows plan objects objects' p reply grows answered, gives_drive_grow objects objects' p.events reply w grows gives))
+may_come_grow plan objects objects' p (event.Result d w) grows (next, alone, inr reported) = (next, alone, inr reported)
 may_come_grow plan objects objects' p (event.Make a f vs) grows (next, opens) = (next, opens_grow plan objects objects' p (Enters f vs) grows opens)
 may_come_grow plan objects objects' p (event.Resume a h) grows enters = entered_grows plan objects objects' p h a grows enters
 may_come_grow plan objects objects' p (event.Ask a r own at) grows goes = goes
@@ -237,7 +238,7 @@ abbrev pub with_more : Plan → List Posed → Plan
 with_more plan more = record plan { asked = plan.asked ++ more }
 
 -- what is there in front of more is the same
-get_front : {A : Type 0} (xs ys : List A) (i : ℕ) → i < length xs → slice_get (xs ++ ys) i ≡ slice_get xs i
+pub get_front : {A : Type 0} (xs ys : List A) (i : ℕ) → i < length xs → slice_get (xs ++ ys) i ≡ slice_get xs i
 get_front [] ys i within = absurd (omega (arith, within))
 get_front (x ∷ xs) ys zero within = refl
 get_front (x ∷ xs) ys (suc i) within = get_front xs ys i (omega (arith, within))
@@ -352,9 +353,16 @@ module _ (plan : Plan) (more : List Posed) (objects : List Payload) where
     asked = inr some;
     same = refl;
   }
-  may_come_more p (event.Result d w) asked (next, alone, (reply, is, gives)) =
+  may_come_more p (event.Result d w) asked (next, alone, inl (reply, is, gives)) =
       let within = drive_of p reply asked is in
-      record { may = (next, alone, (reply, result_more p reply within is, gives)); asked = inl refl; same = ap (with_generators plan p (event.Result d w)) (same_answered p (returned_by w) within) }
+      record { may = (next, alone, inl (reply, result_more p reply within is, gives)); asked = inl refl; same = ap (with_generators plan p (event.Result d w)) (same_answered p (returned_by w) within) }
+  may_come_more p (event.Result d w) asked (next, alone, inr (asks, (e, reports, is))) =
+      let within = asked_in plan p.state Asking asking_busy asks asked in
+      record {
+        may = (next, alone, inr (asks, (e, ap to_report_by (get_front plan.asked more p.state.done within) ∙ reports, is)));
+        asked = inl refl;
+        same = ap (with_generators plan p (event.Result d w)) (same_answered p (returned_by w) within);
+      }
   may_come_more p (event.Make a f vs) asked (next, opens) =
       let within = asked_in plan p.state Asking asking_busy opens.0 asked in
       record { may = (next, opens_more p (Enters f vs) within opens); asked = inr within; same = refl }

@@ -34,7 +34,7 @@ second_comes = (
               (
                 (refl, refl),
                 (
-                  (refl, refl, (Passes (This (exception 7)), inl (_, refl, (refl, refl)), refl)),
+                  (refl, refl, inl (Passes (This (exception 7)), inl (_, refl, (refl, refl)), refl)),
                   tt,
                 ),
               ),

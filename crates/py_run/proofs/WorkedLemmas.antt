@@ -43,8 +43,8 @@ next_comes =
         (
           (refl, refl),
           (
-            (refl, refl, (Stops None, inl (_, refl, (generator_body, refl, _, (_, refl, refl), refl)), refl)),
-            ((refl, refl, lit< tt), ((refl, refl, (Stops None, inl (_, refl, send_is _ _ _ _ generator_body _ _ _ refl refl refl refl), refl)), tt)),
+            (refl, refl, inl (Stops None, inl (_, refl, (generator_body, refl, _, (_, refl, refl), refl)), refl)),
+            ((refl, refl, lit< tt), ((refl, refl, inl (Stops None, inl (_, refl, send_is _ _ _ _ generator_body _ _ _ refl refl refl refl), refl)), tt)),
           ),
         ),
       ),
@@ -60,7 +60,7 @@ naming_comes = (
   (refl, refl, lit< tt),
   (
     (refl, (refl, (_, refl, call_is _ _ _ _ _ _ _ refl refl refl))),
-    ((refl, refl, (_, inl (_, refl, (coro.Generator, record { body = _; entry = refl; signature = _; signed = refl; kind_is = refl }, refl)), (is_new two_objects _ 4 refl refl, refl))), tt),
+    ((refl, refl, inl (_, inl (_, refl, (coro.Generator, record { body = _; entry = refl; signature = _; signed = refl; kind_is = refl }, refl)), (is_new two_objects _ 4 refl refl, refl))), tt),
   ),
 )
 
@@ -70,8 +70,9 @@ naming_is_run = record { comes = naming_comes; tells = λ i a here. tt; named = 
 
 -- the one that the call names would have to be new, but the event of its making names it
 pub named_is_none : Comes naming two_objects nothing (giving 2) → ⊥
-named_is_none (drive, (make, ((next, alone, (reply, inr (asks, (x, forms, is)), gives)), rest))) = absurd (cc forms)
-named_is_none (drive, (make, ((next, alone, (reply, inl (r, asked, (kind, of_kind, is)), gives)), rest))) =
+named_is_none (drive, (make, ((next, alone, inr (asks, (e, reports, is))), rest))) = absurd (cc reports)
+named_is_none (drive, (make, ((next, alone, inl (reply, inr (asks, (x, forms, is)), gives)), rest))) = absurd (cc forms)
+named_is_none (drive, (make, ((next, alone, inl (reply, inl (r, asked, (kind, of_kind, is)), gives)), rest))) =
     old (subst (λ q. GivesDrive two_objects made q (answer.Returns (object 2))) is gives).0
   where
     made : List Event
@@ -86,8 +87,8 @@ close_comes =
     created_comes [] (close (object 2) ∷ send (object 2) (object 0) ∷ []) [] (drop 3 close_events) (is_new close_objects _ 2 refl refl) (
       (refl, refl, lit< tt),
       (
-        (refl, refl, (Closes, inl (_, refl, close_is _ _ _ generator_body _ _ refl refl refl), refl)),
-        ((refl, refl, lit< tt), ((refl, refl, (Stops None, inl (_, refl, send_is _ _ _ _ generator_body _ _ _ refl refl refl refl), refl)), tt)),
+        (refl, refl, inl (Closes, inl (_, refl, close_is _ _ _ generator_body _ _ refl refl refl), refl)),
+        ((refl, refl, lit< tt), ((refl, refl, inl (Stops None, inl (_, refl, send_is _ _ _ _ generator_body _ _ _ refl refl refl refl), refl)), tt)),
       ),
     )
 
@@ -112,7 +113,7 @@ stop_comes =
             (
               refl,
               refl,
-              (
+              inl (
                 FailsFrom RuntimeError (codes "generator raised StopIteration") (exception 7),
                 inl (_, refl, (generator_body, refl, _, (Some StopIteration, false, (true, (_, refl, (_, refl, refl)), refl), (_, refl, (_, refl, refl)), refl), refl)),
                 stop_new,
@@ -151,7 +152,7 @@ self_comes =
             (refl, (Fails ValueError (codes "generator already executing"), (_, refl, send_is _ _ _ _ generator_body _ _ _ refl refl refl refl), self_new)),
             (
               (refl, refl),
-              ((refl, refl, (Passes (This (exception 7)), inl (_, refl, (generator_body, refl, _, (None, false, (false, (_, refl, (_, refl, refl)), refl), (_, refl, (_, refl, refl)), refl), refl)), refl)), tt),
+              ((refl, refl, inl (Passes (This (exception 7)), inl (_, refl, (generator_body, refl, _, (None, false, (false, (_, refl, (_, refl, refl)), refl), (_, refl, (_, refl, refl)), refl), refl)), refl)), tt),
             ),
           ),
         ),
@@ -186,8 +187,8 @@ ignored_comes =
         (
           (refl, refl),
           (
-            (refl, refl, (Fails RuntimeError (codes "generator ignored GeneratorExit"), inl (_, refl, (generator_body, refl, _, refl, refl)), ignored_new)),
-            ((refl, refl, lit< tt), ((refl, refl, (Stops None, inl (_, refl, send_is _ _ _ _ generator_body _ _ _ refl refl refl refl), refl)), tt)),
+            (refl, refl, inl (Fails RuntimeError (codes "generator ignored GeneratorExit"), inl (_, refl, (generator_body, refl, _, refl, refl)), ignored_new)),
+            ((refl, refl, lit< tt), ((refl, refl, inl (Stops None, inl (_, refl, send_is _ _ _ _ generator_body _ _ _ refl refl refl refl), refl)), tt)),
           ),
         ),
       ),
@@ -241,7 +242,7 @@ refuses asked rest then =
         (
           refl,
           refl,
-          (
+          inl (
             Fails TypeError (codes "exceptions must be classes or instances deriving from BaseException, not int"),
             inl (_, refl, throw_is _ _ _ _ _ generator_body fresh _ refl refl (_, not_thrown, refl)),
             number_new,
@@ -260,7 +261,7 @@ throw_comes =
         (Called (record { number = 4 }) [], (refl, (_, refl, throw_is _ _ _ _ _ generator_body fresh _ refl refl (_, class_thrown, refl))), thrown_new),
         (
           (refl, refl),
-          ((refl, refl, (Passes (This (exception 11)), inl (_, refl, (refl, (generator_body, refl, _, (None, false, (false, (_, refl, (_, refl, refl)), refl), (_, refl, (_, refl, refl)), refl), refl))), refl)), tt),
+          ((refl, refl, inl (Passes (This (exception 11)), inl (_, refl, (refl, (generator_body, refl, _, (None, false, (false, (_, refl, (_, refl, refl)), refl), (_, refl, (_, refl, refl)), refl), refl))), refl)), tt),
         ),
       ),
     )
@@ -296,7 +297,7 @@ handled_comes =
                       (refl, (Passes (This (exception 7)), (_, refl, (generator_body, refl, _, (None, false, (false, (_, refl, (_, refl, refl)), refl), (_, refl, (_, refl, refl)), refl), refl)), refl)),
                       (
                         (refl, refl),
-                        ((refl, refl, (Passes (This (exception 7)), inl (_, refl, (refl, refl)), refl)), tt),
+                        ((refl, refl, inl (Passes (This (exception 7)), inl (_, refl, (refl, refl)), refl)), tt),
                       ),
                     ),
                   ),

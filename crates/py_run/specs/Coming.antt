@@ -5,15 +5,18 @@ use Rattle.py_objects.specs.declared.payload.Payload.{Payload}
 use Rattle.py_objects.specs.declared.payload.Payload.TheVariants as payload
 use Rattle.py_objects.specs.declared.payload.CoroKind.{CoroKind}
 use Rattle.py_objects.specs.declared.payload.FunctionBody.{FunctionBody}
+use Rattle.py_objects.specs.declared.refs.PyBaseExceptionRef.{PyBaseExceptionRef}
 use Rattle.py_objects.specs.declared.request.Request.{Request}
+use Rattle.py_objects.specs.declared.event.DriveAnswer.{DriveAnswer}
+use Rattle.py_objects.specs.declared.event.DriveAnswer.TheVariants as answer
 use Rattle.py_objects.specs.declared.event.ResumeHow.{ResumeHow}
 use Rattle.py_objects.specs.declared.event.ResumeHow.TheVariants as how
 use Rattle.py_objects.specs.declared.event.Event.{Event}
 use Rattle.py_objects.specs.declared.event.Event.TheVariants as event
-use Rattle.py_objects.specs.Objects.{Obj, HasPayload, AreNamed}
+use Rattle.py_objects.specs.Objects.{Obj, Name, HasPayload, AreNamed}
 use Rattle.py_objects.specs.Own.{Own, own_events}
 use Rattle.py_answers.specs.Answers.{Raised, Reply, Creates, IsRaise, GivesBody, GivesDrive}
-use Rattle.py_run.specs.Run.{Signature, Plan, Phase, Idle, Asking, Going, Made, Due, State, Activation, start, after, state_after, IsTop, question, forming, depth, handled_among, GoesOn}
+use Rattle.py_run.specs.Run.{Signature, Plan, Phase, Idle, Asking, Going, Made, Due, State, Activation, start, after, state_after, IsTop, question, forming, reporting, depth, handled_among, GoesOn}
 use Rattle.py_run.specs.Generators.{Generator, generators_after}
 use Rattle.py_run.specs.declared.drive.Makings.{Makings}
 use Rattle.py_run.specs.Normalized.{NormalizesTo}
@@ -85,6 +88,15 @@ module _ (plan : Plan) (objects : List Payload) where
   abbrev pub IsFormed : Past → Reply → Type 0
   IsFormed p reply = (p.state.phase ≡ Asking) × ((x : Makings) × (forming plan p.state ≡ Some x) × NormalizesTo objects x reply)
 
+  -- the drive has its reply
+  abbrev pub IsReplied : Past → DriveAnswer → Type 0
+  IsReplied p w = (reply : Reply) × (IsAnswered p reply ⊎ IsFormed p reply) × GivesDrive objects p.events reply w
+
+  -- what the drive has reported comes to a text; which one it is, is said of journals (`HasReports`), since it is read in the store of the event
+  abbrev pub IsReported : Past → DriveAnswer → Type 0
+  IsReported p w =
+      (p.state.phase ≡ Asking) × ((e : Option PyBaseExceptionRef) × (reporting plan p.state ≡ Some e) × ((text : Name) × (w ≡ answer.Reported text)))
+
   -- this event is of the one kind that may come next
   abbrev pub MayCome : Past → Event → Type 0
   MayCome p (event.Drive d) = (p.state.phase ≡ Idle) × (d ≡ suc p.state.done) × (p.state.done < length plan.asked)
@@ -95,7 +107,7 @@ module _ (plan : Plan) (objects : List Payload) where
   MayCome p (event.Yield a v at) = GoesOn p.state a
   MayCome p (event.End a e at) = GoesOn p.state a
   MayCome p (event.Got a w) = IsTop a p.state.stack × ((reply : Reply) × IsAnswered p reply × GivesBody objects p.events reply w)
-  MayCome p (event.Result d w) = (d ≡ suc p.state.done) × (p.state.stack ≡ []) × ((reply : Reply) × (IsAnswered p reply ⊎ IsFormed p reply) × GivesDrive objects p.events reply w)
+  MayCome p (event.Result d w) = (d ≡ suc p.state.done) × (p.state.stack ≡ []) × (IsReplied p w ⊎ IsReported p w)
 
   -- each event may come where it stands, behind those before
   abbrev pub Comes : Past → List Event → Type 0

@@ -6,6 +6,7 @@ pub mod Generators
 -- what answers raise, and which links come of that
 pub mod Raises
 pub mod Links
+pub mod Reports
 -- what questions come to
 pub mod Calls
 -- what comes of what an exception is made of

@@ -6,7 +6,7 @@ mod journal;
 mod laws;
 mod worked;
 
-pub use drive::{Drive, Makings};
+pub use drive::{Drive, Makings, Question};
 pub use journal::Journal;
 pub use laws::{laws_of_generators, laws_of_runs};
 pub use worked::{

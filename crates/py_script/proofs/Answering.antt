@@ -62,7 +62,7 @@ module _ (before after : SourceSeen) (sink sink' : SinkSeen) (turns : ℕ) where
 
   -- a script that was refused
   pub answered_refused : (s : Script) (code at : ℕ) → IsReading before after (Ok s) → IsFirstBroken (decls_of s) code at → IsAnswer before after turns (Err (fault.Refused code at))
-  answered_refused s code at read broken = claims_more _ (λ bytes. IsBrokenFrom bytes code at) before after (λ bytes is. (s, is, broken)) read
+  answered_refused s code at read broken = claims_more _ (λ bytes. IsBrokenFrom bytes code at) before after (λ bytes is. (s, is.0, broken)) read
 
   -- a cut run that wasn't written whole, handed on
   pub answered_cut_unwritten : (s : Script) (j : Journal) (f : ScriptFault) (r : Result Journal ScriptFault) → IsErrAnd r (λ given. given ≡ f) → IsReading before after (Ok s)

@@ -1,9 +1,10 @@
 -- Which raw code of a script breaks a rule first, and that none does where codes are compiled.
-use Rattle.std.proofs.Common.{◌≡◌, ◌<◌, ◌≤◌, ◌⊎◌, ℕ, zero, suc, List, [], ◌∷◌, ◌++◌, length, Some, refl, sym, ap, ◌∙◌, subst, arith, inl, inr}
+use Rattle.std.proofs.Common.{◌≡◌, ◌<◌, ◌≤◌, ◌⊎◌, ℕ, zero, suc, true, List, [], ◌∷◌, ◌++◌, length, Some, refl, sym, ap, ◌∙◌, subst, arith, inl, inr}
 use Rattle.std.specs.Prelude.{Option, None, map, slice_get, take}
 use Rattle.std.proofs.lemmas.Option.{slice_get_within}
 use Rattle.std.proofs.lemmas.Bool.{cases_lt, false≢true}
 use Rattle.std.proofs.lemmas.List.{take-append-le, take_all}
+use Rattle.std.specs.List.{list_all}
 use Rattle.py_code.specs.Codes.{Codes}
 use Rattle.py_check.specs.declared.annotated.Annotated.{Annotated}
 use Rattle.py_grammar.specs.declared.raw_block.RawBlock.{RawBlock}
@@ -21,7 +22,7 @@ use Rattle.py_script.specs.Broken.{AllKeepRules, CodeKeepsRules, FirstKeepRules,
 use Rattle.py_script.specs.Laws.{ScriptsKeepOrBreak, SomeIsBroken}
 use Rattle.py_script.specs.declared.fault.LoadFault.{LoadFault}
 use Rattle.py_script.specs.declared.fault.LoadFault.TheVariants as load
-use Rattle.py_meaning.specs.Core.{IsCore, IsCoreFrom}
+use Rattle.py_meaning.specs.Core.{is_core, IsCoreFrom}
 use Rattle.py_script.specs.Compiled.{AreCompiled, IsCodeOf}
 use Rattle.py_script.specs.Loaded.{AreReady}
 use Rattle.py_script.specs.Earlier.{earlier_before, earlier_of}
@@ -158,7 +159,7 @@ first_broken decls coded rest names codes b at whole ready breaks = record {
         subst (λ (e : Earlier). CodeKeepsRules e k) (sym (earlier_in i (omega (arith, low)))) (code_keeps names (earlier_before coded i) c k own.is)
 
 -- a script without raw codes isn't refused
-core_coded : (decls : List Decl) (i : ℕ) (b : RawBlock) → IsCore decls → slice_get (codes_in decls) i ≡ Some (OfRaw b) → ⊥
+core_coded : (decls : List Decl) (i : ℕ) (b : RawBlock) → list_all is_core decls ≡ true → slice_get (codes_in decls) i ≡ Some (OfRaw b) → ⊥
 core_coded [] i b core is = cc is
 core_coded (ClassDecl c base ∷ ds) i b core is = core_coded ds i b core is
 core_coded (ManagerDecl m e x ∷ ds) i b core is = core_coded ds i b core is
@@ -169,4 +170,4 @@ core_coded (RawDecl r ∷ ds) i b core is = false≢true core
 pub core_not_broken : (bytes : List ℕ) (s : Script) (fault : LoadFault) (code at : ℕ) → IsCoreFrom bytes → IsScript bytes s → fault ≡ load.Refused code at → IsLoadFault (decls_of s) fault → ⊥
 core_not_broken bytes s fault code at (t, is', core) is refused broken =
     let first : IsFirstBroken (decls_of s) code at = subst (IsLoadFault (decls_of s)) refused broken in
-    core_coded (decls_of s) code first.block (subst IsCore (one_tree bytes t s is' is).0 core) first.is_there
+    core_coded (decls_of s) code first.block (subst (λ (l : List Decl). list_all is_core l ≡ true) (one_tree bytes t s is' is).0 core.declares) first.is_there

@@ -21,6 +21,7 @@ use Rattle.py_tree.specs.declared.body.BodyKind.{BodyKind}
 use Rattle.py_tree.specs.declared.body.BodyKind.TheVariants as kind
 use Rattle.py_tree.specs.Tree.{Tree, seen_as}
 use Rattle.py_laid.specs.Code.{IsPlain, flags_of}
+use Rattle.py_laid.proofs.NamingLemmas.{IsNameOf-grown}
 use Rattle.py_laid.specs.Fits.{Fits, Continues}
 use Rattle.py_grammar.specs.declared.script.Declaration.{Declaration}
 use Rattle.py_grammar.specs.Grammar.{Decl, Coded, OfBody, OfRaw, coded_name}
@@ -106,6 +107,8 @@ fits_continues names names' c t grows fits = record {
   kind = fits.kind;
   arity = fits.arity;
   params = params_continue names names' c.code grows fits.sound.named ∙ fits.params;
+  source_path = IsNameOf-grown names names' c.code.code.source_path _ grows fits.source_path;
+  obj_name = IsNameOf-grown names names' c.code.code.obj_name _ grows fits.obj_name;
   sound = sound_continues names names' c grows fits.sound;
   typed = fits.typed;
   traces = λ table globals closure objects throws slot args ts s on. fits.traces table globals closure objects throws slot args ts s (continues_on names names' table grows on);

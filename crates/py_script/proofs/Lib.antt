@@ -9,6 +9,7 @@ pub mod RawCodes
 pub mod Broken
 pub mod Coding
 pub mod Driven
+pub mod Placed
 pub mod Asking
 pub mod Loaded
 pub mod Sessions

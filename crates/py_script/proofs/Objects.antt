@@ -2,6 +2,7 @@
 use Rattle.std.proofs.Common.{◌≡◌, ◌-◌, ℕ, List, [], ◌∷◌, ◌++◌, length, Some, None, sym, ap, ◌∙◌, subst, ◌⊎◌, inl, inr}
 use Rattle.std.specs.Prelude.{Option, slice_get}
 use Rattle.std.proofs.lemmas.Option.{slice_get_within}
+use Rattle.py_objects.specs.declared.refs.PyBaseExceptionRef.{PyBaseExceptionRef}
 use Rattle.py_objects.specs.declared.payload.Payload.{Payload}
 use Rattle.py_objects.specs.declared.payload.Payload.TheVariants as payload
 use Rattle.py_objects.specs.declared.request.Request.{Request}
@@ -19,8 +20,8 @@ use Rattle.py_lines.specs.declared.drive.DriveAtom.TheVariants as atom
 use Rattle.py_lines.specs.declared.drive.DriveLine.{DriveLine}
 use Rattle.py_lines.specs.declared.drive.DriveLine.TheVariants as drive
 use Rattle.py_grammar.specs.Grammar.{Decl, decl_name}
-use Rattle.py_run.specs.Run.{Pose, Requests, Forms, Posed}
-use Rattle.py_meaning.specs.Whole.{IsLeft, IsLeftBy, IsOf, IsThrown, AreOf, AsksThis, Poses, Asks, AreAsked, AreGlobals, AreObjects}
+use Rattle.py_run.specs.Run.{Pose, Requests, Forms, Reports, Posed}
+use Rattle.py_meaning.specs.Whole.{IsLeft, IsLeftBy, IsOf, IsThrown, AreOf, AsksThis, IsRaisedBy, ReportsThis, Poses, Asks, AreAsked, AreGlobals, AreObjects}
 use Rattle.py_script.specs.Session.{AreBindings}
 use Rattle.py_meaning.proofs.Entries.{objects_more}
 
@@ -74,10 +75,24 @@ module _ (objects objects' : List Payload) (events events' : List Event) (grows 
   asks_this_grows (drive.Send n a) r (g, v, is, left, of) = (g, v, is, left_by_grows n g left, of_grows a v of)
   asks_this_grows (drive.Throw n x a) r (g, c, v, is, left, named, of) = (g, c, v, is, left_by_grows n g left, declared_stays objects objects' x grows ∙ named, thrown_grows a v of)
   asks_this_grows (drive.Close n) r (g, is, left) = (g, is, left_by_grows n g left)
+  asks_this_grows (drive.Report n) r asks = asks
+
+  -- so is what a drive raised
+  pub raised_by_grows : (n : ℕ) (e : Option PyBaseExceptionRef) → IsRaisedBy events n e → IsRaisedBy events' n e
+  raised_by_grows n e (i, w, here, is) = (i, w, ap (λ es. slice_get es i) on.1 ∙ slice_get_grown events on.0 i (event.Result n w) here, is)
+
+  reports_this_grows : (d : DriveLine) (e : Option PyBaseExceptionRef) → ReportsThis events d e → ReportsThis events' d e
+  reports_this_grows (drive.Report n) e raised = raised_by_grows n e raised
+  reports_this_grows (drive.Call x args) e reports = reports
+  reports_this_grows (drive.Next n) e reports = reports
+  reports_this_grows (drive.Send n a) e reports = reports
+  reports_this_grows (drive.Throw n x a) e reports = reports
+  reports_this_grows (drive.Close n) e reports = reports
 
   poses_grow : (d : DriveLine) (x : Pose) → Poses objects events d x → Poses objects' events' d x
   poses_grow d (Requests r) asks = asks_this_grows d r asks
   poses_grow d (Forms x) asks = asks
+  poses_grow d (Reports e) reports = reports_this_grows d e reports
 
   -- questions of drives stay so
   pub asked_grow : (ds : List DriveLine) (qs : List Posed) → AreAsked objects events ds qs → AreAsked objects' events' ds qs

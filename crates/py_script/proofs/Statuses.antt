@@ -63,10 +63,10 @@ module _ (before after : SourceSeen) where
   none_runs bytes code at j broken s is codes = none_broken (decls_of s) code at (compiled_keeps (decls_of s) j.codes codes.compiled) (broken_in bytes s code at is broken)
 
   none_whole : (bytes : List ℕ) (turns code at : ℕ) (j : Journal) → IsBrokenFrom bytes code at → IsWholeRun bytes turns j → ⊥
-  none_whole bytes turns code at j broken (s, is, run, whole, few, codes) = none_runs bytes code at j broken s is codes
+  none_whole bytes turns code at j broken (s, is, run, whole, few, codes) = none_runs bytes code at j broken s is.0 codes
 
   none_cut : (bytes : List ℕ) (turns code at : ℕ) (j : Journal) → IsBrokenFrom bytes code at → IsCutRun bytes turns j → ⊥
-  none_cut bytes turns code at j broken (s, is, run, cut, all, codes) = none_runs bytes code at j broken s is codes
+  none_cut bytes turns code at j broken (s, is, run, cut, all, codes) = none_runs bytes code at j broken s is.0 codes
 
   neither_runs : (bytes : List ℕ) (turns code at : ℕ) (j : Journal) → IsBrokenFrom bytes code at → IsWholeRun bytes turns j ⊎ IsCutRun bytes turns j → ⊥
   neither_runs bytes turns code at j broken (inl whole) = none_whole bytes turns code at j broken whole

@@ -5,7 +5,7 @@ use Rattle.py_outside.specs.Faults.{Rose}
 use Rattle.py_outside.specs.Seen.{SinkSeen}
 use Rattle.py_outside.specs.Transfer.{AppendsAll, AppendsFront}
 use Rattle.py_grammar.specs.declared.script.Script.{Script}
-use Rattle.py_grammar.specs.Script.{IsScript}
+use Rattle.py_grammar.specs.Script.{IsReadScript}
 use Rattle.py_run.specs.declared.journal.Journal.{Journal}
 use Rattle.py_make.specs.declared.summary.Summary.{Summary}
 use Rattle.py_make.specs.Summaries.{summary_of, summary_text}
@@ -30,7 +30,7 @@ making_in result = None
 
 -- the journal is a whole run of the script that the bytes are, with the codes that ran
 abbrev pub IsWholeBy : List ℕ → Journal → Type 0
-IsWholeBy bytes j = (s : Script) × IsScript bytes s × IsRun s j × IsWhole s j × RunsItsCodes s j
+IsWholeBy bytes j = (s : Script) × IsReadScript bytes s × IsRun s j × IsWhole s j × RunsItsCodes s j
 
 -- the counts are those of every whole run of the script that the bytes are, and there is one
 pub record IsSummaryOf (bytes : List ℕ) (summary : Summary) : Type 0 where

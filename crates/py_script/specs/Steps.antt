@@ -6,7 +6,7 @@ use Rattle.py_outside.specs.Seen.{SinkSeen, SourceSeen}
 use Rattle.py_outside.specs.Reading.{HasFailed}
 use Rattle.py_outside.specs.Transfer.{AppendsAll, AppendsFront}
 use Rattle.py_grammar.specs.declared.script.Script.{Script}
-use Rattle.py_grammar.specs.Script.{IsScript, IsBadLine}
+use Rattle.py_grammar.specs.Script.{IsReadScript, IsBadLine}
 use Rattle.py_vm.specs.declared.fault.VmFault.{VmFault}
 use Rattle.py_vm.specs.declared.fault.VmFault.TheVariants as vm_fault
 use Rattle.py_run.specs.declared.journal.Journal.{Journal}
@@ -22,7 +22,7 @@ use Rattle.py_script.specs.Causes.{IsTooLong, WasRead}
 
 -- what parsing bytes answers
 abbrev pub IsParsed : List ℕ → Result Script ScriptFault → Type 0
-IsParsed bytes (Ok s) = IsScript bytes s
+IsParsed bytes (Ok s) = IsReadScript bytes s
 IsParsed bytes (Err fault.ReadFault) = ⊥
 IsParsed bytes (Err (fault.WriteFault j)) = ⊥
 IsParsed bytes (Err fault.TooLong) = ⊥
@@ -43,7 +43,7 @@ IsReadFault before after (fault.NoMemory j) = IsEmpty j
 
 -- what reading a script answers
 abbrev pub IsReading : SourceSeen → SourceSeen → Result Script ScriptFault → Type 0
-IsReading before after (Ok s) = WasRead before after (λ bytes. IsScript bytes s)
+IsReading before after (Ok s) = WasRead before after (λ bytes. IsReadScript bytes s)
 IsReading before after (Err fault.ReadFault) = HasFailed before after
 IsReading before after (Err (fault.WriteFault j)) = ⊥
 IsReading before after (Err fault.TooLong) = IsTooLong before after

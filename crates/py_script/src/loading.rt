@@ -11,6 +11,7 @@ ghost use Rattle.py_grammar.specs.Rules.{is_among};
 ghost use Rattle.py_grammar.specs.Script.{decl_of, decls_of};
 ghost use Rattle.py_grammar.specs.WellFormed.{IsWellCoded, IsWellFormed};
 ghost use Rattle.py_raw.specs.Earlier.{with_code};
+ghost use Rattle.py_meaning.specs.Reported.{sources_of};
 ghost use Rattle.py_script.specs.Broken.{AllKeepRules, IsCodeFault, IsDeclFault, IsLoadFault};
 ghost use Rattle.py_script.specs.Loaded.{AreCodesOf, AreLoadable, IsCodable, IsCodeFor, IsReadyCode, with_codes};
 ghost use Rattle.py_meaning.specs.Entries.{AreDeclared, AreWellDeclared};
@@ -21,13 +22,14 @@ ghost use Rattle.py_script.specs.Driving.{HasRunOf};
 
 use crate::declaring::{add_declarations, object_named};
 use crate::fault::LoadFault;
-use crate::session::Session;
+use crate::session::{RaisedList, Session};
 use py_body::compile_body;
 use py_check::{CheckFault, CheckedCode, check_code};
-use py_code::{Names, NoMemory, PyText};
+use py_code::{Names, NoMemory, PyText, text_of};
 use py_grammar::{Declaration, RawBlock, Script};
 use py_objects::{ObjList, PairList, Payload, PyObjectRef};
 use py_raw::{Earlier, assemble};
+use py_reports::{Source, Sources};
 use py_tree::Body;
 use py_vm::VirtualMachine;
 use std::alloc::Global;
@@ -244,18 +246,33 @@ fn bind_declarations(
     take_globals(vm, pairs)
 }
 
+/// The source texts of a script: its own, under the path of each script.
+fn sources_of(alloc: Global, text: &PyText) -> Result<Sources, NoMemory>
+    ensures { IfOk result (λ sources. sources ≡ sources_of text.now) }
+{
+    let path = text_of(alloc, b"<script>")?;
+    let source = Source::new(alloc, &path, text)?;
+    let mut sources = Sources::new(alloc);
+    sources.push(source)?;
+    Ok(sources)
+}
+
 /// A machine that holds the declarations of the script, with the dict of their names as its globals.
 fn load_session(alloc: Global, script: &Script) -> Result<Session, LoadFault>
     requires { IsWellFormed script.now }
     ensures loaded { IfOk result (λ session. IsLoaded (decls_of script.now) session) }
+    ensures sources { IfOk result (λ session. session.sources ≡ sources_of script.now.text) }
     ensures fault { IfErr result (IsLoadFault (decls_of script.now)) }
 {
     let mut vm = load_declarations(alloc, script)?;
     bind_declarations(alloc, &mut vm, script.declarations.as_slice())?;
+    let sources = sources_of(alloc, &script.text)?;
     Ok(Session {
         alloc,
         vm,
         values: ObjList::new(alloc),
+        raised: RaisedList::new(alloc),
+        sources,
         failed: false,
     })
 }
@@ -266,7 +283,8 @@ fn load_session(alloc: Global, script: &Script) -> Result<Session, LoadFault>
 pub fn load_script(alloc: Global, script: &Script) -> Result<Session, LoadFault>
     requires { IsWellFormed script.now }
     ensures session { IfOk result (λ session. IsSessionOf (decls_of script.now) [] session) }
-    ensures runs { IfOk result (λ session. HasRunOf (decls_of script.now) [] (journal_of session)) }
+    ensures sources { IfOk result (λ session. session.sources ≡ sources_of script.now.text) }
+    ensures runs { IfOk result (λ session. HasRunOf (decls_of script.now) [] session.sources (journal_of session)) }
     ensures whole { IfOk result (λ session. IsDone 0 (journal_of session).events) }
     ensures begun { IfOk result (λ session. (journal_of session).events ≡ []) }
     ensures keeps { IfOk result (λ _. AllKeepRules (decls_of script.now)) }

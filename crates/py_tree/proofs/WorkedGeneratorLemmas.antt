@@ -12,7 +12,7 @@ use Rattle.py_tree.specs.Scene.{Scene}
 use Rattle.py_tree.specs.Outcome.{RunsSuite}
 use Rattle.py_tree.specs.Trace.{EndsBy}
 use Rattle.py_tree.specs.WorkedHandlers.{none_object, x_name}
-use Rattle.py_tree.specs.WorkedGenerators.{yields_one, guards, one_object, yields_in_finally, YieldedIsTrace, NoOtherYielded, NoneGoesOnAlone, ThrownInIsTrace, NoClauseBeforeStart, NoThrowIntoFunction, ThrownWhileHandling, NoThrowUnderNothing}
+use Rattle.py_tree.specs.WorkedGenerators.{yields_one, guards, one_object, yields_in_finally, YieldedIsTrace, NoOtherYielded, NoneGoesOnAlone, ThrownInIsTrace, NoClauseBeforeStart, NoThrowIntoFunction, ThrownWhileHandling, NoThrowWhereItMayNot}
 use Rattle.py_tree.specs.Worked.{shows_behind}
 use Rattle.py_tree.proofs.WorkedLemmas.{begun}
 
@@ -71,5 +71,5 @@ no_under scene k at l after i v w e f never (inr (inr (inr (v3, h3, inr (a4, m4,
 no_under scene k at l after i v w e f never (inr (inr (inr (v3, h3, inr (a4, m4, l4, i4, inr (k4, got.Raise w4, r4, j4, inr (inr (v6, h6, inr (a7, m7, l7, i7, inr (k7, how.Send w7, m8, i8, t8)))))))))) = cc (i4, j4, i7, i8)
 no_under scene k at l after i v w e f never (inr (inr (inr (v3, h3, inr (a4, m4, l4, i4, inr (k4, got.Raise w4, r4, j4, inr (inr (v6, h6, inr (a7, m7, l7, i7, inr (k7, how.Throw f7, m8, i8, (may, t8))))))))))) = cc (i4, j4, i7, i8, may, never)
 
-pub no_throw_under_nothing : NoThrowUnderNothing
-no_throw_under_nothing scene k at l after i v w e f never trace = no_under scene k at l after i v w e f never (begun scene yields_in_finally _ trace)
+pub no_throw_where_it_may_not : NoThrowWhereItMayNot
+no_throw_where_it_may_not scene k at l after i v w e f never trace = no_under scene k at l after i v w e f never (begun scene yields_in_finally _ trace)

@@ -84,7 +84,7 @@ ThrownWhileHandling = (throws : ThrowTest) (globals : Obj) (e f : PyBaseExceptio
     → IsTrace (yielding throws globals) yields_in_finally []
     (Makes ∷ Resumes 2 how.Start ∷ Asks 3 (request.Show none_object) None ∷ Gets 4 (got.Raise e) ∷ Yields 5 one_object ∷ Resumes 7 (how.Throw f) ∷ Ends 0 (ending.Raise f) ∷ [])
 
--- an event that may not while e is handled, as one that may only while nothing is, throws nothing in
-abbrev pub NoThrowUnderNothing : Type 0
-NoThrowUnderNothing = (scene : Scene) (k at l after i : ℕ) (v w : Obj) (e f : PyBaseExceptionRef) → scene.throws_under i (Some e) ≡ false
+-- an event throws nothing in that may not while e is handled, such as one that may only while nothing is
+abbrev pub NoThrowWhereItMayNot : Type 0
+NoThrowWhereItMayNot = (scene : Scene) (k at l after i : ℕ) (v w : Obj) (e f : PyBaseExceptionRef) → scene.throws_under i (Some e) ≡ false
     → IsTrace scene yields_in_finally [] (Makes ∷ Resumes k how.Start ∷ Asks at (request.Show v) None ∷ Gets l (got.Raise e) ∷ Yields after w ∷ Resumes i (how.Throw f) ∷ []) → ⊥

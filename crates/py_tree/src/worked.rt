@@ -1,7 +1,7 @@
 //! Small trees, worked by hand.
 
 ghost use Rattle.py_tree.specs.Worked.{HandledIsTrace, LeftIsTrace, NoExceptionLetOut, NoExceptionStays, NoFinallyBrokenOutOf, NoFinallySkipped, ReturnedIsTrace, ShownIsTrace};
-ghost use Rattle.py_tree.specs.WorkedGenerators.{NoClauseBeforeStart, NoOtherYielded, NoThrowIntoFunction, NoThrowUnderNothing, NoneGoesOnAlone, ThrownInIsTrace, ThrownWhileHandling, YieldedIsTrace};
+ghost use Rattle.py_tree.specs.WorkedGenerators.{NoClauseBeforeStart, NoOtherYielded, NoThrowIntoFunction, NoThrowWhereItMayNot, NoneGoesOnAlone, ThrownInIsTrace, ThrownWhileHandling, YieldedIsTrace};
 ghost use Rattle.py_tree.specs.WorkedHandlers.{FinallyHandles, NameIsForgotten, NotByTheClause, NoFinallyForgets, RaisedAgain};
 ghost use Rattle.py_tree.specs.WorkedManagers.{LeftByReturnIsTrace, NoExitSkipped, NoExitSkippedByRaise, NoExitUnhandled, NoRaiseSwallowed, NoReturnSwallowed, SwallowedIsTrace};
 
@@ -36,7 +36,7 @@ pub fn worked_yields()
     ensures no_clause_before_start { NoClauseBeforeStart }
     ensures no_throw_into_function { NoThrowIntoFunction }
     ensures thrown_while_handling { ThrownWhileHandling }
-    ensures no_throw_under_nothing { NoThrowUnderNothing }
+    ensures no_throw_where_it_may_not { NoThrowWhereItMayNot }
 {}
 
 /// States what the exits of managers are asked in small trees, that one may swallow a raise, and that none is left out behind a

@@ -16,7 +16,7 @@ use Rattle.py_objects.proofs.OriginalsLemmas.{filter-marked}
 use Rattle.py_exceptions.specs.Tracebacks.{traceback_object}
 use Rattle.py_answers.specs.Readable.{ChangeUnread}
 use Rattle.py_stack.specs.Slots.{topmost}
-use Rattle.py_run.specs.declared.drive.Drive.{Drive}
+use Rattle.py_run.specs.declared.drive.Question.{Question as Drive}
 use Rattle.py_run.specs.Coming.{MayCome}
 use Rattle.py_run.specs.Links.{links_at, is_link, noted, scene_at, ComeOf, HasLinksOf, ObjectEdit, Scene, TellsNow}
 use Rattle.py_run.specs.Run.{start, state_after}
@@ -26,7 +26,7 @@ use Rattle.py_vm.specs.declared.stage.Stage.{Stage}
 use Rattle.py_vm.specs.Advancing.{may_of, Advances, HaltsThere}
 use Rattle.py_vm.specs.Codes.{plain_codes}
 use Rattle.py_vm.specs.Links.{lines_of, rows_under, AreLinksAmong, IsMarked}
-use Rattle.py_vm.specs.Machine.{plan_of, IsCallable}
+use Rattle.py_vm.specs.Machine.{plan_of, IsAskable as IsCallable}
 use Rattle.py_vm.specs.Raising.{CanLink, Linked, LinksOf}
 use Rattle.py_vm.specs.Stands.{Keeps}
 use Rattle.py_vm.specs.Turns.{past_at, Halts, Turned, Turns, IsBusy, IsReady}

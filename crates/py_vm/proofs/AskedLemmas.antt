@@ -27,7 +27,7 @@ use Rattle.py_frame.specs.declared.input.Answer.{Answer}
 use Rattle.py_frame.specs.Frames.{handed}
 use Rattle.py_frame.specs.Steps.{Expects, got_of, taken}
 use Rattle.py_answers.specs.Answers.{Reply, GivesBody, GivesDrive}
-use Rattle.py_run.specs.declared.drive.Drive.{Drive}
+use Rattle.py_run.specs.declared.drive.Question.{Question as Drive}
 use Rattle.py_run.specs.Run.{Posed, start, state_after, top_asks, question}
 use Rattle.py_run.specs.Raises.{raised_by}
 use Rattle.py_run.specs.Generators.{answered, returned_by, value_of}
@@ -174,7 +174,7 @@ result_law m d s store list w Other k none alone grown below replied change fold
       slots = alone.slots ∙ sym (ap slots_in none);
       at_stage = none;
     }) (refl, refl, refl)
-    (λ asked is. let (reply, answered, gives) = replied asked is in (next_number _ _ k.follows.done, alone.stack, (reply, inl answered, gives)))
+    (λ asked is. let (reply, answered, gives) = replied asked is in (next_number _ _ k.follows.done, alone.stack, inl (reply, inl answered, gives)))
 
 -- ---- by a reply
 

@@ -33,7 +33,7 @@ use Rattle.py_coro.specs.declared.coro.CoroEnd.{CoroEnd}
 use Rattle.py_coro.specs.declared.coro.CoroEnd.TheVariants as left
 use Rattle.py_coro.specs.Refusals.{word_of}
 use Rattle.py_answers.specs.Answers.{Reply}
-use Rattle.py_run.specs.declared.drive.Drive.{Drive}
+use Rattle.py_run.specs.declared.drive.Question.{Question as Drive}
 use Rattle.py_run.specs.Drives.{request_of}
 use Rattle.py_run.specs.Calls.{reply_by}
 use Rattle.py_run.specs.Links.{AsksNow, ComeOf, ComeOfAnswer, ComeOfTop, GetsContext, GivesContext, ObjectEdit, PutsEntry, Raises, RaisesIf, Scene, TellsNow, is_fresh, named_by}

@@ -23,7 +23,7 @@ use Rattle.py_rows.specs.Laws.{RaisedThere}
 use Rattle.py_rows.proofs.GrowingLemmas.{kind_grown}
 use Rattle.py_rows.proofs.HandledLemmas.{handled_outside, handled_there}
 use Rattle.py_rows.proofs.RunLemmas.{runs_keep_slot}
-use Rattle.py_run.specs.declared.drive.Drive.{Drive}
+use Rattle.py_run.specs.declared.drive.Question.{Question as Drive}
 use Rattle.py_run.specs.Drives.{request_of}
 use Rattle.py_run.specs.Run.{Act, start, state_after, handled_among}
 use Rattle.py_vm.specs.declared.stage.Running.{Running}

@@ -34,7 +34,7 @@ use Rattle.py_rows.specs.Signature.{kind_by}
 use Rattle.py_frame.specs.declared.input.Input.TheVariants as input
 use Rattle.py_frame.specs.Frames.{handed}
 use Rattle.py_frame.specs.Steps.{Expects, heard, taken}
-use Rattle.py_run.specs.declared.drive.Drive.{Drive}
+use Rattle.py_run.specs.declared.drive.Question.{Question as Drive}
 use Rattle.py_run.specs.Drives.{request_of}
 use Rattle.py_run.specs.Run.{Made, Posed, start, state_after}
 use Rattle.py_run.specs.Generators.{running_at}

@@ -36,8 +36,8 @@ use Rattle.py_objects.specs.Positional.{is_bare}
 use Rattle.py_frame.specs.declared.input.Answer.{Answer}
 use Rattle.py_frame.specs.declared.input.Answer.TheVariants as given
 use Rattle.py_frame.specs.Steps.{got_of}
-use Rattle.py_run.specs.declared.drive.Drive.{Drive}
-use Rattle.py_run.specs.declared.drive.Drive.TheVariants.{Call, Send, Throw, Close}
+use Rattle.py_run.specs.declared.drive.Question.{Question as Drive}
+use Rattle.py_run.specs.declared.drive.Question.TheVariants.{Call, Send, Throw, Close}
 use Rattle.py_run.specs.Calls.{IsDue, LeavesCalled, LeavesGenerator, reply_by}
 use Rattle.py_run.specs.Drives.{request_of}
 use Rattle.py_run.specs.Run.{Posed, start, state_after, question}

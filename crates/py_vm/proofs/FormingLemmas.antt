@@ -20,8 +20,8 @@ use Rattle.py_answers.specs.Answers.{Reply, GivesDrive}
 use Rattle.py_objects.specs.declared.edit.LinkField.TheVariants as link
 use Rattle.py_answers.specs.Readable.{ChangeUnread}
 use Rattle.py_answers.proofs.ReadableLemmas.{change_unread, changes_grown}
-use Rattle.py_run.specs.declared.drive.Drive.{Drive}
-use Rattle.py_run.specs.declared.drive.Drive.TheVariants.{Close}
+use Rattle.py_run.specs.declared.drive.Question.{Question as Drive}
+use Rattle.py_run.specs.declared.drive.Question.TheVariants.{Close}
 use Rattle.py_run.specs.declared.drive.Makings.{Makings}
 use Rattle.py_run.specs.Normalized.{NormalizesTo}
 use Rattle.py_run.specs.Run.{Posed, Plan, State, start, state_after, after, open_in, makings_of as makings_in, question}
@@ -54,7 +54,7 @@ use Rattle.py_objects.proofs.BelowLemmas.{ChangesBelow-more, ChangesBelow-append
 use Rattle.py_objects.proofs.OriginalsLemmas.{AreMarked-later}
 
 -- the drive of a script that is asked in its place, where it doesn't matter which
-abbrev any_drive : Drive
+abbrev pub any_drive : Drive
 any_drive = Close (record { number = 0 })
 
 -- ---- between drives
@@ -64,10 +64,10 @@ module _ (m : Core) (idle : IsIdle m) where
   none : m.callers ≡ []
   none = idle_callers m idle
 
-  alone : (state_after start m.events).stack ≡ []
+  pub alone : (state_after start m.events).stack ≡ []
   alone = (kept_idle m idle).follows.stack ∙ ap (acts_of m.events m.callers) idle.idle ∙ ap (caller_acts m.events) none
 
-  done : done_of (seen m) ≡ m.done
+  pub done : done_of (seen m) ≡ m.done
   done = (kept_idle m idle).follows.done
 
   -- a drive may begin
@@ -101,7 +101,7 @@ module _ (m : Core) (idle : IsIdle m) where
   asks = (begun_law m any_drive begins).keeps
 
 -- it has its result, and nothing else was done
-result_keeps : (m : Core) (d : Drive) (w : DriveAnswer) → Keeps m d stage.Asking → AllBelow (length m.world.store.made) (result_numbers w) → Keeps (result_by m w) d stage.Idle
+pub result_keeps : (m : Core) (d : Drive) (w : DriveAnswer) → Keeps m d stage.Asking → AllBelow (length m.world.store.made) (result_numbers w) → Keeps (result_by m w) d stage.Idle
 result_keeps m d w k below =
     let e : Event = event.Result (m.done + 1) w in
     let none : m.callers ≡ [] = k.at_stage in
@@ -288,7 +288,7 @@ module _ (m : Core) (idle : IsIdle m) (x : Makings) where
           (
             next_number _ _ (done m idle),
             alone m idle,
-            (
+            inl (
               reply_in m.world.store.made store.made x f is,
               inr (refl, (x, ap makings_in next, normalizes_to_grow m.world.store.made store.made x _ plainly (normalizes_in m.world.store.made store.made x f is))),
               gives_in m.world.store.made store.made x f is (m.events ++ first ∷ []) (asks m idle).told.named,

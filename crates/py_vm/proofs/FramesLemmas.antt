@@ -4,7 +4,7 @@ use Rattle.std.specs.Prelude.{Option, None}
 use Rattle.py_objects.specs.declared.refs.PyBaseExceptionRef.{PyBaseExceptionRef}
 use Rattle.py_objects.specs.declared.event.Event.{Event}
 use Rattle.py_objects.specs.declared.event.Event.TheVariants as event
-use Rattle.py_run.specs.declared.drive.Drive.{Drive}
+use Rattle.py_run.specs.declared.drive.Question.{Question as Drive}
 use Rattle.py_run.specs.Links.{IsFrameOf}
 use Rattle.py_run.specs.Run.{Activation, start, state_after}
 use Rattle.py_vm.specs.declared.stage.Running.{Running}

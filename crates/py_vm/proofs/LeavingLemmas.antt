@@ -34,7 +34,7 @@ use Rattle.py_coro.specs.Leaving.{mode_behind, raised, value_if, Finishes}
 use Rattle.py_coro.specs.Coros.{AreRead}
 use Rattle.py_coro.specs.Refusals.{ignoring, stopping, word_of}
 use Rattle.py_frame.specs.declared.input.Answer.{Answer}
-use Rattle.py_run.specs.declared.drive.Drive.{Drive}
+use Rattle.py_run.specs.declared.drive.Question.{Question as Drive}
 use Rattle.py_run.specs.Calls.{reply_by}
 use Rattle.py_run.specs.Drives.{request_of}
 use Rattle.py_vm.specs.declared.reply.Reply.{Reply as MadeReply}

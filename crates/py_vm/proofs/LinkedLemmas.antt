@@ -22,7 +22,7 @@ use Rattle.py_vm.specs.RowsOf.{RowsUnder}
 use Rattle.py_answers.proofs.ReadableLemmas.{link_stays}
 use Rattle.py_vm.proofs.LinksLemmas.{link_below}
 use Rattle.py_vm.proofs.RowsOfLemmas.{rows_under_still}
-use Rattle.py_run.specs.declared.drive.Drive.{Drive}
+use Rattle.py_run.specs.declared.drive.Question.{Question as Drive}
 use Rattle.py_objects.specs.declared.event.DriveAnswer.{DriveAnswer}
 use Rattle.py_run.specs.Run.{State, start, state_after}
 use Rattle.py_run.proofs.OwnLemmas.{state_lists}

@@ -16,7 +16,7 @@ use Rattle.py_rows.specs.declared.expect.Expect.{Expect}
 use Rattle.py_rows.specs.declared.expect.Expect.TheVariants as expect
 use Rattle.py_frame.specs.Steps.{slot_taken}
 use Rattle.py_frame.proofs.HearingLemmas.{slot_same}
-use Rattle.py_run.specs.declared.drive.Drive.{Drive}
+use Rattle.py_run.specs.declared.drive.Question.{Question as Drive}
 use Rattle.py_run.specs.Run.{Act, Posed, State, start, state_after, entered_in, depth, handled_among, after}
 use Rattle.py_run.specs.Calls.{Setting}
 use Rattle.py_run.specs.Generators.{Generator, generators_after}

@@ -38,7 +38,7 @@ use Rattle.py_coro.specs.Modes.{Mode, Fresh, Suspended as Left, Running as Enter
 use Rattle.py_answers.specs.Answers.{Reply}
 use Rattle.py_answers.specs.Readable.{IsReadable}
 use Rattle.py_answers.specs.Replying.{IsGenerator}
-use Rattle.py_run.specs.declared.drive.Drive.{Drive}
+use Rattle.py_run.specs.declared.drive.Question.{Question as Drive}
 use Rattle.py_run.specs.Calls.{Setting}
 use Rattle.py_vm.specs.declared.calls.Course.{Course as MadeCourse}
 use Rattle.py_vm.specs.declared.calls.Course.TheVariants as course

@@ -15,8 +15,8 @@ use Rattle.py_objects.specs.Edits.{Kept}
 use Rattle.py_stack.specs.Slots.{topmost}
 use Rattle.py_answers.specs.Answers.{Reply}
 use Rattle.py_coro.specs.declared.coro.CoroEnd.{CoroEnd}
-use Rattle.py_run.specs.declared.drive.Drive.{Drive}
-use Rattle.py_run.specs.declared.drive.Drive.TheVariants.{Call, Send, Throw, Close}
+use Rattle.py_run.specs.declared.drive.Question.{Question as Drive}
+use Rattle.py_run.specs.declared.drive.Question.TheVariants.{Call, Send, Throw, Close}
 use Rattle.py_run.specs.Calls.{Course, Says, Enters, Begins, Sends, Throws, Setting, ComesTo, IsDue}
 use Rattle.py_run.specs.Run.{Act, Phase, Asking, Made, Due, Posed, State, start, state_after, open_in, question, handled_among}
 use Rattle.py_run.specs.Coming.{setting, MakesGenerator, Opens, IsEntered, IsReply, IsAnswered, Starts}
@@ -29,7 +29,7 @@ use Rattle.py_vm.specs.declared.stage.Stage.TheVariants as stage
 use Rattle.py_vm.specs.declared.generators.KeptGenerator.{KeptGenerator}
 use Rattle.py_vm.specs.declared.machinery.Core.{Core}
 use Rattle.py_vm.specs.Courses.{EntersBy}
-use Rattle.py_vm.specs.Machine.{posed, plan_of, drive_numbers}
+use Rattle.py_vm.specs.Machine.{posed, plan_of, question_numbers as drive_numbers}
 use Rattle.py_vm.specs.Stands.{IsHalted, asking, caller_acts, first_slot, slots_in, Keeps, IsCalling}
 use Rattle.py_vm.specs.Turns.{past_at, setting_at, IsOpened}
 use Rattle.py_vm.proofs.ChainLemmas.{AreHalted, callers_handle, halted_handles, inside_halted}

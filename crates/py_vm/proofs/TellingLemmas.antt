@@ -20,7 +20,7 @@ use Rattle.py_frame.specs.declared.input.FrameStep.{FrameStep}
 use Rattle.py_frame.specs.declared.input.FrameStep.TheVariants as step
 use Rattle.py_frame.specs.Exits.{HasTraceback, IsTold, TellsExit}
 use Rattle.py_frame.specs.Frames.{Framed, setting_of}
-use Rattle.py_run.specs.declared.drive.Drive.{Drive}
+use Rattle.py_run.specs.declared.drive.Question.{Question as Drive}
 use Rattle.py_run.specs.Links.{AsksNow, IsToldNow}
 use Rattle.py_run.proofs.LinksLemmas.{traceback_grown}
 use Rattle.py_vm.specs.declared.stage.Running.{Running}

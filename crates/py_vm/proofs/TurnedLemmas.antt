@@ -22,7 +22,7 @@ use Rattle.py_rows.specs.Laws.{RaisedThere}
 use Rattle.py_frame.specs.Steps.{got_of}
 use Rattle.py_answers.specs.Answers.{Reply}
 use Rattle.py_answers.specs.Replying.{IsGenerator}
-use Rattle.py_run.specs.declared.drive.Drive.{Drive}
+use Rattle.py_run.specs.declared.drive.Question.{Question as Drive}
 use Rattle.py_run.specs.Calls.{ComesTo, Says}
 use Rattle.py_run.specs.Drives.{request_of}
 use Rattle.py_run.specs.Raises.{is_raising}
@@ -39,7 +39,7 @@ use Rattle.py_vm.specs.declared.generators.KeptGenerator.{KeptGenerator}
 use Rattle.py_vm.specs.declared.machinery.Core.{Core}
 use Rattle.py_vm.specs.Codes.{Checked}
 use Rattle.py_vm.specs.Generators.{generator_asked, kept_at, modes_of, IsRunningNow}
-use Rattle.py_vm.specs.Machine.{plan_of, IsCallable}
+use Rattle.py_vm.specs.Machine.{plan_of, IsAskable as IsCallable}
 use Rattle.py_vm.specs.Raising.{IsTraceable}
 use Rattle.py_vm.specs.Stands.{AreEach, HasEntered, IsGoing, IsHalted, IsInside, IsKept as IsKeptAs, Keeps, KeepsIn, asking, caller_acts, caller_frames, first_slot, slots_in, stacked}
 use Rattle.py_vm.specs.Turns.{past_at, setting_at, AnsweredOne, AreReady, AsksNoRaise, CanReply, Comes_on, FirstAsks, HasOwnSlot, HoldsIn, IsBusy, IsReady, IsSaid, Replies, Started, Turned, Turns}

@@ -4,7 +4,7 @@ use Rattle.py_objects.specs.declared.event.Event.{Event}
 use Rattle.py_objects.specs.declared.event.DriveAnswer.{DriveAnswer}
 use Rattle.py_objects.specs.Objects.{AllBelow}
 use Rattle.py_objects.specs.Changes.{store_at}
-use Rattle.py_run.specs.declared.drive.Drive.{Drive}
+use Rattle.py_run.specs.declared.drive.Question.{Question as Drive}
 use Rattle.py_run.specs.Run.{Posed, start, state_after}
 use Rattle.py_run.specs.Coming.{MayCome, Comes, past_after}
 use Rattle.py_run.specs.Links.{HasLinksOf, LinksCome, MayUnder, TellsNow}
@@ -12,7 +12,7 @@ use Rattle.py_run.specs.Past.{past_behind}
 use Rattle.py_vm.specs.declared.machinery.Core.{Core}
 use Rattle.py_vm.specs.Codes.{plain_codes}
 use Rattle.py_vm.specs.Links.{lines_of, rows_under, GrowsLinked}
-use Rattle.py_vm.specs.Machine.{done_in, posed, plan_of, drive_numbers}
+use Rattle.py_vm.specs.Machine.{done_in, posed, plan_of, question_numbers as drive_numbers}
 use Rattle.py_vm.specs.Stands.{Keeps}
 use Rattle.py_vm.specs.Turns.{past_at, AfterTurn, IsBusy}
 

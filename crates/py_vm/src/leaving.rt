@@ -15,7 +15,7 @@ use py_code::NoMemory;
 use py_coro::{CoroAnswer, CoroEnd, converted, ignored};
 use py_exceptions::{new_exception, new_exception_from};
 use py_objects::{CoroKind, DriveAnswer, Event, PyBaseExceptionRef, PyObjectRef, Request};
-use py_run::Drive;
+use py_run::Question;
 use std::mem;
 
 impl Core {
@@ -49,7 +49,7 @@ impl Core {
     /// An activation was left: who entered it gets the answer.
     pub(crate) fn finish(
         &mut self,
-        drive: &Drive,
+        drive: &Question,
         left: Suspended,
         how: CoroEnd,
     ) -> Result<Option<DriveAnswer>, NoMemory>
@@ -68,7 +68,7 @@ impl Core {
     }
 
     /// The generator that the open question has entered, if it has entered one.
-    fn generator_entered(&self, drive: &Drive) -> Option<PyObjectRef>
+    fn generator_entered(&self, drive: &Question) -> Option<PyObjectRef>
         requires { FirstAsks self.now.world self.now.events self.now.callers }
         ensures { EntersAs self.now drive.now result }
     {
@@ -138,14 +138,14 @@ fn generator_asked(request: &Request) -> Option<PyObjectRef>
 }
 
 /// The same of a drive.
-fn generator_of(drive: &Drive) -> Option<PyObjectRef>
+fn generator_of(drive: &Question) -> Option<PyObjectRef>
     ensures { result ≡ generator_asked (request_of drive.now) }
 {
     match drive {
-        Drive::Call(..) => None,
-        Drive::Send(generator, _) => Some(*generator),
-        Drive::Throw(generator, ..) => Some(*generator),
-        Drive::Close(generator) => Some(*generator),
+        Question::Call(..) => None,
+        Question::Send(generator, _) => Some(*generator),
+        Question::Throw(generator, ..) => Some(*generator),
+        Question::Close(generator) => Some(*generator),
     }
 }
 

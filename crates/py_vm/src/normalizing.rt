@@ -75,7 +75,7 @@ impl VirtualMachine {
 
 impl Core {
     /// Notes that the turns are spent.
-    fn stop(&mut self) -> VmFault
+    pub(crate) fn stop(&mut self) -> VmFault
         ensures fault { result ≡ OutOfTurns }
         ensures failed { self.new ≡ record self.old { failed = true } }
     {
@@ -84,7 +84,7 @@ impl Core {
     }
 
     /// The drive begins.
-    fn begin_forming(&mut self) -> Result<(), NoMemory>
+    pub(crate) fn begin_forming(&mut self) -> Result<(), NoMemory>
         requires { self.old.done ≤ length self.old.events }
         ensures ok { OnOk result (self.new ≡ forming_by self.old) }
         ensures err { OnErr result (self.new ≡ self.old) }

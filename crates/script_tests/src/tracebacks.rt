@@ -43,7 +43,9 @@ fn tracebacks_told(alloc: Global) -> Result<Vec<Told>, NoMemory> {
 }
 
 #[test]
-fn each_body_that_an_exception_is_raised_in_puts_an_entry_in_front(rt: HostRuntime) -> Result<(), Fail> {
+fn each_body_that_an_exception_is_raised_in_puts_an_entry_in_front(
+    rt: HostRuntime,
+) -> Result<(), Fail> {
     let told = tracebacks_told(rt.alloc())?;
     assert_eq!(rt;
         told.as_slice(),

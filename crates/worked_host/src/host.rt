@@ -14,6 +14,7 @@ use py_body::{Body, compile_body};
 use py_check::{CheckFault, CheckedCode, Shapes, check_code};
 use py_code::{Names, NoMemory, PyText, text_of_str, utf8_of};
 use py_objects::{DriveAnswer, FunctionBody, ObjList, Payload, PyObjectRef};
+use py_reports::Sources;
 use py_vm::{Drive, Journal, VirtualMachine};
 use std::alloc::Global;
 
@@ -173,7 +174,7 @@ impl Host {
         ensures there { IfOk result (λ answer. AllBelow (length self.new.vm.objects) (result_numbers answer)) }
         ensures grows { OnOk result (length self.old.vm.objects ≤ length self.new.vm.objects) }
     {
-        let answer = self.vm.drive(drive, turns)?;
+        let answer = self.vm.drive(drive, &Sources::new(self.alloc), turns)?;
         Ok(answer)
     }
 

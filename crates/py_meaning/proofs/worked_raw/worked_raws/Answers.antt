@@ -36,4 +36,4 @@ pub returns-clause-is_not_core : goal.returns-clause-is_not_core
 returns-clause-is_not_core c = not_core
 
 pub returns-clause-is_core : goal.returns-clause-is_core
-returns-clause-is_core c = refl
+returns-clause-is_core c = record { declares = refl; drives_plainly = refl }

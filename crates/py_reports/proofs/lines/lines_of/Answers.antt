@@ -1,6 +1,6 @@
 use Rattle.std.proofs.Common.{◌+◌, ◌∙◌, ◌++◌, List, ap, subst, sym}
 use Rattle.py_objects.specs.Objects.{Name}
-use Rattle.py_reports.specs.Met.{one_line, without_return}
+use Rattle.py_reports.specs.Inside.{one_line, without_return}
 use Rattle.py_reports.proofs.LinesLemmas.{cut_more, cut_on, cut_whole, IsCut}
 use Rattle.py_reports.proofs.lines.lines_of.Goals as goal
 use Rattle.py_reports.proofs.lines.lines_of.Goals.{then-c-eq10+in_ok-copy_of+in_ok-push, else-c-eq10+in_ok-push-2}

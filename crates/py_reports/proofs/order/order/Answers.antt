@@ -1,5 +1,5 @@
 use Rattle.std.proofs.Common.{length}
-use Rattle.py_reports.specs.Met.{step_at}
+use Rattle.py_reports.specs.Inside.{step_at}
 use Rattle.py_reports.proofs.WalkLemmas.{absent_by, found_by, met_order, numbers_seen, one_more_met, smaller, step_within}
 use Rattle.py_reports.proofs.order.order.Goals as goal
 

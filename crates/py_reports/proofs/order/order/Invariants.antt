@@ -1,6 +1,6 @@
 use Rattle.std.proofs.Common.{◌≡◌, suc, ◌-◌, length}
 use Rattle.py_objects.specs.Objects.{numbers}
-use Rattle.py_reports.specs.Met.{step_at}
+use Rattle.py_reports.specs.Inside.{step_at}
 use Rattle.py_reports.proofs.WalkLemmas.{SoFar}
 use Rattle.py_reports.proofs.order.order.Given as goal
 

@@ -1,4 +1,4 @@
-use Rattle.py_reports.proofs.WorkedLemmas.{its_own_cause, round_and_round, stops_early, with_cause, with_context, with_entry, without_context}
+use Rattle.py_reports.proofs.WorkedLemmas.{its_own_cause, round_and_round, shows_its_line, stops_early, with_cause, with_context, with_entry, without_context}
 use Rattle.py_reports.proofs.worked.worked_reports.Goals as goal
 
 pub returns-clause-cause : goal.returns-clause-cause
@@ -18,6 +18,9 @@ returns-clause-own_cause c = its_own_cause
 
 pub returns-clause-traceback : goal.returns-clause-traceback
 returns-clause-traceback c = with_entry
+
+pub returns-clause-syntax_error : goal.returns-clause-syntax_error
+returns-clause-syntax_error c = shows_its_line
 
 pub returns-clause-stops_early : goal.returns-clause-stops_early
 returns-clause-stops_early c = stops_early

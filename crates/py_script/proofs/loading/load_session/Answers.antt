@@ -15,4 +15,4 @@ bind_declarations-requires-clause-declared c =
 pub returns-clause-loaded : goal.returns-clause-loaded
 returns-clause-loaded c =
     let binds = of_decls (λ ds. BindsAll ds c.in_ok-vm.vm c.bind_declarations.new.vm) _ _ c.as_slice.ensures c.in_ok-bind_declarations.ensures in
-    all_loaded c.args.script.now (record { vm = c.bind_declarations.new.vm; values = c.new.result; failed = false }) c.in_ok-vm.vm c.in_ok-vm.ensures.has binds c.new.ensures refl
+    all_loaded c.args.script.now (record { vm = c.bind_declarations.new.vm; values = c.new.result; raised = c.new-2.result; sources = c.in_ok-sources.sources; failed = false }) c.in_ok-vm.vm c.in_ok-vm.ensures.has binds c.new.ensures c.new-2.ensures refl

@@ -1,7 +1,7 @@
 use Rattle.std.proofs.Common.{◌≡◌, ◌≤◌, ◌∙◌, List, ℕ, length, sym, ap, subst, arith}
 use Rattle.std.specs.Prelude.{Err}
 use Rattle.py_grammar.proofs.Verdicts.{spelled_not_bad}
-use Rattle.py_grammar.specs.Script.{IsBadLine, IsScript}
+use Rattle.py_grammar.specs.Script.{IsBadLine, IsReadScript, IsScript}
 use Rattle.py_make.specs.Made.{made_text}
 use Rattle.py_make.proofs.LengthLemmas.{are_short}
 use Rattle.py_make.proofs.ScriptLemmas.{are_scripts}
@@ -36,7 +36,7 @@ unreachable-requires-in-Err-OutOfTurns c =
     let fault : c.in-Err-OutOfTurns.field-0 ≡ vm_fault.OutOfTurns = rw c.in-Err-OutOfTurns.is at c.in-Err-OutOfTurns.field-0-is in
     let spent : c.in-Ok-run_drives.ran.1 ≡ Err vm_fault.OutOfTurns = c.in-Err-OutOfTurns.is ∙ ap Err fault in
     let run = subst (HasRun c.in-Ok.script 1000000 journal) spent c.in-Ok-run_drives.ensures.ran in
-    let script : IsScript text c.in-Ok.script = subst (λ (l : List ℕ). IsScript l c.in-Ok.script) (c.as_slice.ensures.value ∙ c.in_ok-text.ensures) c.in-Ok.ensures.ok in
+    let script : IsReadScript text c.in-Ok.script = subst (λ (l : List ℕ). IsReadScript l c.in-Ok.script) (c.as_slice.ensures.value ∙ c.in_ok-text.ensures) (c.in-Ok.ensures.ok, c.in-Ok.ensures.text) in
     let (s, whole, is_script, is_run, is_whole, short) = have_runs c.args.seed c.args.count c.requires in
     let longest : length journal.events ≤ length whole.events = never_longer text whole journal (are_core c.args.seed c.args.count c.requires) (s, is_script, is_run, is_whole) (c.in-Ok.script, script, run.0) in
     absurd (omega (arith, short, longest, run.2, c.requires))

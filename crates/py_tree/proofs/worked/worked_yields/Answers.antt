@@ -1,4 +1,4 @@
-use Rattle.py_tree.proofs.WorkedGeneratorLemmas.{yielded_is_trace, no_other_yielded, none_goes_on_alone, thrown_in_is_trace, no_clause_before_start, no_throw_into_function, thrown_while_handling, no_throw_under_nothing}
+use Rattle.py_tree.proofs.WorkedGeneratorLemmas.{yielded_is_trace, no_other_yielded, none_goes_on_alone, thrown_in_is_trace, no_clause_before_start, no_throw_into_function, thrown_while_handling, no_throw_where_it_may_not}
 use Rattle.py_tree.proofs.worked.worked_yields.Goals as goal
 
 pub returns : goal.returns
@@ -10,5 +10,5 @@ returns c = record {
   no_clause_before_start = no_clause_before_start;
   no_throw_into_function = no_throw_into_function;
   thrown_while_handling = thrown_while_handling;
-  no_throw_under_nothing = no_throw_under_nothing;
+  no_throw_where_it_may_not = no_throw_where_it_may_not;
 }

@@ -16,4 +16,4 @@ result_there objects events d w named (front, is) =
 
 pub returns-clause-there : goal.returns-clause-there
 returns-clause-there c =
-    result_there c.drive.new.self.objects c.drive.new.self.events _ c.in_ok-answer.answer (c.drive.ensures.adds c.requires.ready.works).named c.in_ok-answer.ensures.answer
+    result_there c.drive-2.new.self.objects c.drive-2.new.self.events _ c.in_ok-answer.answer (c.drive-2.ensures.adds c.requires.ready.works).named c.in_ok-answer.ensures.answer
