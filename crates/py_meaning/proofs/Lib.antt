@@ -30,4 +30,5 @@ mod WorkedGeneratorLemmas
 mod WorkedWithLemmas
 mod WorkedRawLemmas
 mod WorkedContextLemmas
+mod WorkedReportLemmas
 mod ComparedLemmas

@@ -158,7 +158,7 @@ no_end_where_it_is_true r =
 
 -- ---- the unknown name
 
-abbrev unknown_function : Tree
+abbrev pub unknown_function : Tree
 unknown_function = function_of (first 2 (Show (Leaf (atom.Name (codes "z")))) nothing)
 
 pub unknown_spelled : Spells (lines unknown_script) unknown_decls drives

@@ -22,5 +22,6 @@ pub mod WorkedGenerator
 pub mod WorkedWith
 pub mod WorkedRaw
 pub mod WorkedContext
+pub mod WorkedReport
 -- events of two runs, compared by hand
 pub mod Compared

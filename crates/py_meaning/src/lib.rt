@@ -11,6 +11,7 @@ mod worked_finally;
 mod worked_generator;
 mod worked_loop;
 mod worked_raw;
+mod worked_report;
 mod worked_show;
 mod worked_with;
 
@@ -23,5 +24,6 @@ pub use worked_finally::worked_finallies;
 pub use worked_generator::worked_generators;
 pub use worked_loop::worked_loops;
 pub use worked_raw::worked_raws;
+pub use worked_report::worked_report_drives;
 pub use worked_show::worked_shows;
 pub use worked_with::worked_withs;
