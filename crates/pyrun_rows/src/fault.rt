@@ -1,16 +1,15 @@
 //! Why rows can't be run, and why a line of them can't be taken.
 
 use py_code::NoMemory;
-use py_outside::ReadError;
 use std::alloc::{AllocError, AllocFailed};
-use std::fmt;
+use std::{fmt, io};
 
 /// Why rows can't be run.
 #[derive(Debug, Drop)]
 pub(crate) enum RowsFault {
     /// Memory ran out.
     NoMemory,
-    /// The file isn't read, isn't text, or has more than 2^20 bytes.
+    /// The file isn't read, or isn't text.
     Unreadable,
     /// The line of this number, from 1, says nothing that is known.
     Unknown(usize),
@@ -44,11 +43,11 @@ impl<T: Drop> From<AllocFailed<T>> for RowsFault {
     }
 }
 
-impl From<ReadError> for RowsFault {
-    fn from(error: ReadError) -> RowsFault {
-        match error {
-            ReadError::NoMemory => RowsFault::NoMemory,
-            ReadError::Fault | ReadError::TooLong => RowsFault::Unreadable,
+impl From<io::Error> for RowsFault {
+    fn from(error: io::Error) -> RowsFault {
+        match error.kind() {
+            io::ErrorKind::OutOfMemory => RowsFault::NoMemory,
+            _ => RowsFault::Unreadable,
         }
     }
 }

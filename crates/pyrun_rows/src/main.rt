@@ -13,10 +13,10 @@ mod run;
 use crate::fault::RowsFault;
 use crate::parse::parse_rows;
 use crate::report::{Report, run_rows};
-use py_outside::{StdSink, StdSource, read_bytes, write_bytes};
+use py_outside::{StdSink, write_bytes};
 use std::alloc::Global;
 use std::process::ExitCode;
-use std::{env, io, str};
+use std::{env, io};
 
 /// The word that the rows to be shown have in their names, where the command line has one.
 fn word_of(rt: &HostRuntime, alloc: Global) -> Result<Option<String>, RowsFault> {
@@ -31,9 +31,8 @@ fn word_of(rt: &HostRuntime, alloc: Global) -> Result<Option<String>, RowsFault>
 fn run_all(rt: &HostRuntime) -> Result<Report, RowsFault> {
     let alloc = rt.alloc();
     let word = word_of(rt, alloc)?;
-    let bytes = read_bytes(alloc, &mut StdSource::new(rt.reader()))?;
-    let text = str::from_utf8(bytes.as_slice()).map_err(|_| RowsFault::Unreadable)?;
-    let rows = parse_rows(alloc, text)?;
+    let text = io::read_to_string(alloc, rt.reader())?;
+    let rows = parse_rows(alloc, text.as_str())?;
     let word = word.as_ref().map(|word| word.as_str());
     Ok(run_rows(alloc, rows.as_slice(), word)?)
 }
