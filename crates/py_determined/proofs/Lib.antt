@@ -16,6 +16,8 @@ pub mod Requests
 pub mod Growing
 -- what the same events make of the same states
 pub mod StatesAgree
+pub mod GeneratorsAgree
+pub mod RaisesAgree
 -- one more pair of related objects
 pub mod Pairing
 -- what the same replies give

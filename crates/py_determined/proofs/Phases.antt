@@ -21,7 +21,7 @@ use Rattle.py_run.specs.Run.{Plan, Phase, Idle, Asking, Going, Made, Due, IsTop,
 use Rattle.py_run.specs.Generators.{value_of, returned_by, generators_after}
 use Rattle.py_run.specs.Calls.{Course, Says, Enters, Begins, Sends, Throws, ComesTo, IsDue}
 use Rattle.py_run.specs.Coming.{Past, setting, IsOfKind, MakesGenerator, IsReply, IsAnswered, MayCome}
-use Rattle.py_determined.proofs.StatesAgree.{IsPlain, ArePlain, running_plain, answered_plain}
+use Rattle.py_determined.proofs.GeneratorsAgree.{IsPlain, ArePlain, running_plain, answered_plain}
 
 -- a past in this phase
 abbrev pub at_phase : Past → Phase → Past

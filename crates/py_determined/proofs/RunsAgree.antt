@@ -24,7 +24,9 @@ use Rattle.py_determined.specs.Events.{SameEvent, SameEvents}
 use Rattle.py_determined.specs.Related.{paired, pairs_of, value_numbers, IsPair, Related, Paired}
 use Rattle.py_determined.proofs.SameStates.{SamePosed, SameState, SameRaises}
 use Rattle.py_determined.proofs.Growing.{maybe_grows, event_grows, events_grow, state_grows, posed_grows, generators_grow, raises_grow}
-use Rattle.py_determined.proofs.StatesAgree.{tops_same, after_same, forms_none, question_same, setting_same, ArePlain, generators_same, raises_same}
+use Rattle.py_determined.proofs.StatesAgree.{tops_same, after_same, forms_none, question_same, setting_same}
+use Rattle.py_determined.proofs.GeneratorsAgree.{ArePlain, generators_same}
+use Rattle.py_determined.proofs.RaisesAgree.{raises_same}
 use Rattle.py_determined.proofs.Pairing.{pairs_on, pairs_end, pairs_related, event_same, no_more_alike, born_alike, new_left, new_right, pair_left, pair_right, related_on, related_either}
 use Rattle.py_determined.proofs.Telling.{IsPositive, positive_behind, top_positive, made_stays, both_found, told_behind, told_first, IsTelling, SameTelling, telling_same}
 use Rattle.py_determined.proofs.Phases.{at_phase, IsTold, Requesting, told_top, idle_next, plain_next}

@@ -33,7 +33,8 @@ use Rattle.py_determined.proofs.SameStates.{SamePhase, SameActs, SameState, Same
 use Rattle.py_determined.proofs.CoursesAgree.{courses_agree, due_agree}
 use Rattle.py_determined.proofs.Requests.{BothAsk, BothUnbound, BothGlobal, BothBinary, BothCompare, BothTruth, BothMatch, BothHandled, BothRaisable, BothShow, BothCall, BothSend, BothThrow, BothClose, BothEnter, BothExit, BothNoExit, both_ask}
 use Rattle.py_determined.proofs.Growing.{requests_grow, handled_grows}
-use Rattle.py_determined.proofs.StatesAgree.{tops_same, made_count, raise_same, IsToldRight, AsksRight}
+use Rattle.py_determined.proofs.StatesAgree.{tops_same, made_count}
+use Rattle.py_determined.proofs.RaisesAgree.{raise_same, IsToldRight, AsksRight}
 use Rattle.py_determined.proofs.Pairing.{AreBorn, IsBare}
 use Rattle.py_determined.proofs.Births.{AreGiven, body_same, raise_given, value_given, raised_given, not_both, nor_both, traceback_given}
 use Rattle.py_determined.proofs.Telling.{SameTelling}

@@ -1,4 +1,4 @@
--- What exits are told in a journal of a script without raw codes: the tracebacks of raises.
+-- What exits are told in a journal of a script without raw codes and reports: the tracebacks of raises.
 use Rattle.std.proofs.Common.{List, [], length, refl}
 use Rattle.py_objects.specs.declared.payload.Payload.TheVariants as payload
 use Rattle.py_objects.specs.Objects.{Obj}

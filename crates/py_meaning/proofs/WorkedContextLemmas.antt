@@ -1,6 +1,6 @@
 -- What the definitions say of the journal with a raise in a handler.
 use Rattle.std.proofs.Common.{◌≡◌, ℕ, zero, suc, List, [], ◌∷◌, ◌++◌, Option, Some, None, true, refl, ap, inl, inr, length, lit<, lit≤, ◌∙◌, subst, sym, append-nil, arith}
-use Rattle.std.specs.Prelude.{codes, slice_get}
+use Rattle.std.specs.Prelude.{codes, drop, slice_get, take}
 use Rattle.std.proofs.lemmas.Option.{same_Some}
 use Rattle.py_code.specs.Codes.{Codes}
 use Rattle.py_objects.specs.declared.payload.Payload.{Payload}
@@ -18,6 +18,7 @@ use Rattle.py_objects.specs.declared.payload.FunctionBody.{FunctionBody}
 use Rattle.py_objects.specs.declared.payload.TracebackBody.{TracebackBody}
 use Rattle.py_objects.specs.Objects.{Obj, AllFit, HasPayload}
 use Rattle.py_objects.specs.Own.{own_events, own_from, told_by}
+use Rattle.py_objects.specs.Telling.{ThrowTest}
 use Rattle.py_tree.specs.Scene.{anywhere}
 use Rattle.py_tree.specs.Trace.{IsTrace}
 use Rattle.py_grammar.specs.Grammar.{Declares, Drives, FunctionDecl, OfBody, codes_in}
@@ -28,6 +29,7 @@ use Rattle.py_exceptions.specs.Walks.{led, on_link}
 use Rattle.py_answers.specs.Answers.{This, Is, Fails, Matches, Passes, truth, unknown_text, IsRaised}
 use Rattle.py_run.specs.Run.{Activation, Plan}
 use Rattle.py_run.specs.Coming.{nothing as at_first, Comes}
+use Rattle.py_run.proofs.NoLinks.{quiet, quiet_then}
 use Rattle.py_run.proofs.ReportsLemmas.{nothing_reported}
 use Rattle.py_run.specs.Run.{start, state_after}
 use Rattle.py_run.specs.Links.{AreLinks, ObjectEdit, Raises, cut, lines_in, links_at, named_by, named_in, noted, scene_at}
@@ -213,104 +215,62 @@ alone = (refl, lit≤ tt, lit≤ tt, (refl, lit≤ tt, lit≤ tt, (refl, lit≤ 
 
 pub is_run : AreItsChanges links
 unfolding is_run_of
-is_run k has = record {
-  run = is_run_of;
-  links = record {
-    come = (
-      tt,
-      ([], refl, refl),
-      (
-        tt,
-        ([], refl, refl),
-        (
+is_run k has =
+    let may = λ (throws : ThrowTest). TracesUnder throws (codes_in decls) (object 2) objects in
+    record {
+      run = is_run_of;
+      links = record {
+        come = quiet_then may (lines_in k) objects links [] before_first (drop 4 events) refl refl (
           tt,
-          ([], refl, refl),
           (
-            tt,
-            ([], refl, refl),
-            (
-              tt,
-              (
-                (object 6, edit.Link link.Traceback (Some (object 10))) ∷ [],
-                record {
-                  contexts = [];
-                  gets = refl;
-                  entries = (object 6, edit.Link link.Traceback (Some (object 10))) ∷ [];
-                  puts = record {
-                    frame = record { number = (object 3).number };
-                    is_frame = record { at = 0; numbered = refl; activation = _; is_made = refl; body = _; is_function = refl; entry = refl; made_with = refl };
-                    line = 3;
-                    is_line = has.0;
-                    entry = object 10;
-                    has = refl;
-                    newer = all_below (object 10).number (named_by before_first ++ named_in []) refl;
-                    puts = refl;
-                  };
-                  both = refl;
-                },
-                refl,
-              ),
-              (
-                tt,
-                ([], refl, refl),
-                (
-                  tt,
-                  ([], refl, refl),
-                  (
-                    tt,
-                    ([], refl, refl),
-                    (
-                      tt,
-                      ([], refl, refl),
-                      (
-                        tt,
-                        ([], refl, refl),
-                        (
-                          tt,
-                          ([], refl, refl),
-                          (
-                            tt,
-                            ([], refl, refl),
-                            (
-                              tt,
-                              (
-                                (object 7, edit.Link link.Context (Some (object 6))) ∷ (object 7, edit.Link link.Traceback (Some (object 11))) ∷ [],
-                                record {
-                                  contexts = (object 7, edit.Link link.Context (Some (object 6))) ∷ [];
-                                  gets = (None, no_way_back _ (object 6) (object 7) refl, refl);
-                                  entries = (object 7, edit.Link link.Traceback (Some (object 11))) ∷ [];
-                                  puts = record {
-                                    frame = record { number = (object 3).number };
-                                    is_frame = record { at = 0; numbered = refl; activation = _; is_made = refl; body = _; is_function = refl; entry = refl; made_with = refl };
-                                    line = 5;
-                                    is_line = has.1;
-                                    entry = object 11;
-                                    has = refl;
-                                    newer = all_below (object 11).number (named_by before_second ++ named_in (first_entry ∷ [])) refl;
-                                    puts = refl;
-                                  };
-                                  both = refl;
-                                },
-                                refl,
-                              ),
-                              (tt, ([], refl, refl), (tt, ([], refl, refl), tt)),
-                            ),
-                          ),
-                        ),
-                      ),
-                    ),
-                  ),
-                ),
-              ),
-            ),
+            (object 6, edit.Link link.Traceback (Some (object 10))) ∷ [],
+            record {
+              contexts = [];
+              gets = refl;
+              entries = (object 6, edit.Link link.Traceback (Some (object 10))) ∷ [];
+              puts = record {
+                frame = record { number = (object 3).number };
+                is_frame = record { at = 0; numbered = refl; activation = _; is_made = refl; body = _; is_function = refl; entry = refl; made_with = refl };
+                line = 3;
+                is_line = has.0;
+                entry = object 10;
+                has = refl;
+                newer = all_below (object 10).number (named_by before_first ++ named_in []) refl;
+                puts = refl;
+              };
+              both = refl;
+            },
+            refl,
           ),
-        ),
-      ),
-    );
-    alone = alone;
-  };
-  reports = nothing_reported (plan_of (codes_in decls) is_run_of.asked) (origins_of (codes_in decls) []) objects links [] events refl (lit≤ tt);
-}
+          quiet_then may (lines_in k) objects links (take 5 events) (drop 5 before_second) (drop 12 events) refl refl (
+            tt,
+            (
+              (object 7, edit.Link link.Context (Some (object 6))) ∷ (object 7, edit.Link link.Traceback (Some (object 11))) ∷ [],
+              record {
+                contexts = (object 7, edit.Link link.Context (Some (object 6))) ∷ [];
+                gets = (None, no_way_back _ (object 6) (object 7) refl, refl);
+                entries = (object 7, edit.Link link.Traceback (Some (object 11))) ∷ [];
+                puts = record {
+                  frame = record { number = (object 3).number };
+                  is_frame = record { at = 0; numbered = refl; activation = _; is_made = refl; body = _; is_function = refl; entry = refl; made_with = refl };
+                  line = 5;
+                  is_line = has.1;
+                  entry = object 11;
+                  has = refl;
+                  newer = all_below (object 11).number (named_by before_second ++ named_in (first_entry ∷ [])) refl;
+                  puts = refl;
+                };
+                both = refl;
+              },
+              refl,
+            ),
+            quiet may (lines_in k) objects links (take 13 events) (drop 13 events) refl refl,
+          ),
+        );
+        alone = alone;
+      };
+      reports = nothing_reported (plan_of (codes_in decls) is_run_of.asked) (origins_of (codes_in decls) []) objects links [] events refl (lit≤ tt);
+    }
 
 pub text : (k : Codes) → text_of (journal k links) ≡ codes "1 raises NameError: name 'z' is not defined\n"
 text k =

@@ -23,8 +23,8 @@ OfTwoRuns claim =
     (decls : List Decl) (drives : List DriveLine) (sources sources' : List SourceLines) (j j' : Journal) → IsCore decls drives → NameEarlier drives
     → IsJournalOf decls drives sources j → IsJournalOf decls drives sources' j' → claim j.objects j'.objects j.events j'.events
 
--- an exit is told the traceback of the last raise of its exception: one and the same for that raise, and new the first time;
--- where there was no raise it is told None
+-- in a journal of such declarations and drives an exit is told the traceback of the last raise of its exception: one and the same for
+-- that raise, and new the first time; where there was no raise it is told None
 abbrev pub ExitsAreTold : Type 0
 ExitsAreTold =
     (decls : List Decl) (drives : List DriveLine) (sources : List SourceLines) (j : Journal) → IsCore decls drives → NameEarlier drives

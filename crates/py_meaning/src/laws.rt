@@ -13,7 +13,7 @@ ghost use Rattle.py_meaning.specs.Laws.{
   WholeHaveOneText,
 };
 
-/// States laws of scripts without raw codes, and does nothing.
+/// States laws of scripts without raw codes and reports, and does nothing.
 ///
 /// Two journals of the same declarations and drives are the same, event by event, as far as both go, but for the numbers
 /// of objects and of units: their events are of one kind, of one drive or activation, and name related objects, where two objects are related that

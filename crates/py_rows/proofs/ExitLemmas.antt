@@ -1,4 +1,4 @@
--- What a run that asks for an exit tells it, and that it may as well tell another traceback.
+-- What a run that asks for an exit tells it.
 use Rattle.std.proofs.Common.{◌≡◌, ◌∙◌, ◌++◌, append-nil, ℕ, List, [], ◌∷◌, Bool, Option, None, Some, true, false, cond, refl, sym, subst, length}
 use Rattle.std.specs.Prelude.{slice_get, nat_lt, ◌==◌}
 use Rattle.py_code.specs.Bottom.{bottom}
@@ -12,7 +12,6 @@ use Rattle.py_objects.specs.declared.refs.PyBaseExceptionRef.{PyBaseExceptionRef
 use Rattle.py_objects.specs.declared.payload.Payload.{Payload}
 use Rattle.py_objects.specs.declared.request.Request.TheVariants as request
 use Rattle.py_objects.specs.declared.event.GotAnswer.TheVariants as got
-use Rattle.py_objects.specs.Growth.{Grows}
 use Rattle.py_objects.specs.Objects.{Obj, as_object}
 use Rattle.py_objects.specs.Own.{Own, Asks, Rounds}
 use Rattle.py_rows.specs.declared.block.Block.{Block}
@@ -29,7 +28,6 @@ use Rattle.py_rows.specs.Rows.{where_there, takes_off, asks, in_finally, asks_ex
 use Rattle.py_rows.specs.Unwinding.{left, left_handler, meets, unwind, unwinds}
 use Rattle.py_rows.specs.Receiving.{moves, answered, unit_answered}
 use Rattle.py_rows.specs.RunOfRows.{IsExit, MayLead, Hears, Steps, silent, telling, hearing, Runs, none, on}
-use Rattle.py_rows.proofs.GrowingLemmas.{step_grown, run_grown}
 use Rattle.py_rows.proofs.WalkLemmas.{step_led}
 
 -- whether an event is a question
@@ -84,26 +82,30 @@ raise_asks (Some raise.Reraise) x t v b may = cc
 raise_asks (Some raise.Raise) x t v b may = cc
 raise_asks (Some raise.RaiseCause) x t v b may = cc
 
+-- an exit is told these of an exception, or of none
+abbrev pub IsSomeExit : List Payload → (t v b : Obj) → Type 0
+IsSomeExit objects t v b = (e : Option PyBaseExceptionRef) × IsExit objects e t v b
+
 module _ (x k v b : Obj) (own : Option PyBaseExceptionRef) (at : ℕ) where
-  -- the question, with this traceback
-  abbrev exit_of : Obj → Own
-  exit_of traceback = Asks at (request.Exit x k v traceback) own
+  -- the question
+  abbrev exit : Own
+  exit = Asks at (request.Exit x k v b) own
 
   module _ (s t : State) (k0 v0 b0 : Obj) where
-    abbrev asked_of : Bool → List Obj → Obj → Obj → Obj → Step
-    asked_of there vs k' v' b' = where_there there (takes_off vs (λ y rest. asks (request.Exit y k' v' b') s))
+    abbrev asked_of : Bool → List Obj → Step
+    asked_of there vs = where_there there (takes_off vs (λ y rest. asks (request.Exit y k0 v0 b0) s))
 
-    abbrev in_blocks : List Block → Obj → Obj → Obj → Step
-    in_blocks ds k' v' b' = in_finally ds (λ level r kept outer. asked_of (length s.stack == level) (bottom level s.stack) k' v' b')
+    abbrev in_blocks : List Block → Step
+    in_blocks ds = in_finally ds (λ level r kept outer. asked_of (length s.stack == level) (bottom level s.stack))
 
-    -- a step that tells the exit tells these, and may tell it any other traceback
-    abbrev ToldBy : (Obj → Obj → Obj → Step) → Type 0
-    ToldBy f = f k0 v0 b0 ≡ Tells (exit_of b) t → (k0 ≡ k) × (v0 ≡ v) × (b0 ≡ b) × ((b' : Obj) → f k v b' ≡ Tells (exit_of b') t)
+    -- a step that tells the exit tells these
+    abbrev ToldBy : Step → Type 0
+    ToldBy step = step ≡ Tells exit t → (k0 ≡ k) × (v0 ≡ v) × (b0 ≡ b)
 
     by_there : (there : Bool) (vs : List Obj) → ToldBy (asked_of there vs)
     by_there false vs = λ told. absurd (cc told)
     by_there true [] = λ told. absurd (cc told)
-    by_there true (y ∷ rest) = λ told. (cc, cc, cc, λ b'. cc)
+    by_there true (y ∷ rest) = λ told. (cc, cc, cc)
 
     by_type : (typ : BlockType) (level : ℕ) (outer : List Block) → ToldBy (in_blocks (record { typ = typ; level = level } ∷ outer))
     by_type Loop level outer = λ told. absurd (cc told)
@@ -116,23 +118,17 @@ module _ (x k v b : Obj) (own : Option PyBaseExceptionRef) (at : ℕ) where
     by_blocks [] = λ told. absurd (cc told)
     by_blocks (d ∷ outer) = by_type d.typ d.level outer
 
-    step_told : ToldBy (asks_exit s)
+    step_told : ToldBy (asks_exit s k0 v0 b0)
     step_told = by_blocks s.blocks
-
-  -- a move that may tell the exit: which exception's it is, and that it may tell it any other traceback
-  abbrev Told : List Payload → Move → State → Type 0
-  Told objects m t = (e : Option PyBaseExceptionRef) × IsExit objects e k v b
-      × ((objects' : List Payload) (b' : Obj) → Grows objects objects' → IsExit objects' e k v b' → MayLead objects' m (Tells (exit_of b') t))
 
   module _ (objects : List Payload) (setting : Setting) (t : State) where
     abbrev TellsExit : Move → Type 0
-    TellsExit m = MayLead objects m (Tells (exit_of b) t) → Told objects m t
+    TellsExit m = MayLead objects m (Tells exit t) → IsSomeExit objects k v b
 
     by_exit : (s : State) (e : Option PyBaseExceptionRef) → TellsExit (Exits e (λ t v b. asks_exit s t v b))
     by_exit s e (k0, v0, b0, exits, told) =
-        let (same_k, same_v, same_b, others) = step_told s t k0 v0 b0 told in
-        let is : IsExit objects e k v b = subst (λ (o : Obj). IsExit objects e k v o) same_b (subst (λ (o : Obj). IsExit objects e k o b0) same_v (subst (λ (o : Obj). IsExit objects e o v0 b0) same_k exits)) in
-        (e, is, λ objects' b' grows exits'. (k, v, b', exits', others b'))
+        let (same_k, same_v, same_b) = step_told s t k0 v0 b0 told in
+        (e, subst (λ (o : Obj). IsExit objects e k v o) same_b (subst (λ (o : Obj). IsExit objects e k o b0) same_v (subst (λ (o : Obj). IsExit objects e o v0 b0) same_k exits)))
 
     by_acting : (op : Instruction) (arg i : ℕ) (s : State) → may_ask op arg (request.Exit x k v b) ≡ true → TellsExit (act setting op i s)
     by_acting WithCleanupStart arg i s may = by_exit s (raised_in s.blocks)
@@ -152,9 +148,9 @@ module _ (x k v b : Obj) (own : Option PyBaseExceptionRef) (at : ℕ) where
     by_answer None w s may = absurd may
     by_answer (Some u) w s may = by_answering u.op u.arg (with_byte s.prefix u.arg) w s may
 
-    by_raise : (step : Step) → AsksNothing step → step ≡ Tells (exit_of b) t → ⊥
+    by_raise : (step : Step) → AsksNothing step → step ≡ Tells exit t → ⊥
     by_raise (Goes u) nothing told = cc
-    by_raise (Tells y u) nothing told = let same : y ≡ exit_of b = cc in let clash : true ≡ false = subst (λ (z : Own). is_question z ≡ false) same nothing in cc
+    by_raise (Tells y u) nothing told = let same : y ≡ exit = cc in let clash : true ≡ false = subst (λ (z : Own). is_question z ≡ false) same nothing in cc
     by_raise Stuck nothing told = cc
 
     by_expect : (w : Expect) (s : State) → UnitAsks (slice_get setting.code.code.instructions.items s.at) (request.Exit x k v b) → TellsExit (moves setting w s)
@@ -168,22 +164,17 @@ module _ (x k v b : Obj) (own : Option PyBaseExceptionRef) (at : ℕ) where
     by_expect expect.Ended s may = λ told. absurd (cc told)
 
     -- a question is of the unit at which it was asked
-    asked_at : (s : State) → MayLead objects (moves setting s.wants s) (Tells (exit_of b) t) → at ≡ s.at
+    asked_at : (s : State) → MayLead objects (moves setting s.wants s) (Tells exit t) → at ≡ s.at
     asked_at s told =
         let led = step_led s.slot ⊥ ⊥ objects setting s
         (record { good = record { handled = λ m. absurd m; keep = λ m. absurd m; blocks = λ m. absurd m; exception = λ m. absurd m }; stack = λ m. absurd m; locals = λ m. absurd m })
-        (Tells (exit_of b) t) (λ m. absurd m) (λ m. absurd m) told in
+        (Tells exit t) (λ m. absurd m) (λ m. absurd m) told in
         led.0.0
 
     move_told : (s : State) → UnitAsks (slice_get setting.code.code.instructions.items at) (request.Exit x k v b) → TellsExit (moves setting s.wants s)
     move_told s may told = by_expect s.wants s (subst (λ (i : ℕ). UnitAsks (slice_get setting.code.code.instructions.items i) (request.Exit x k v b)) (asked_at s told) may) told
 
-    -- a run that tells it, and no event beside it
-    abbrev RunsTold : State → Type 0
-    RunsTold s = (e : Option PyBaseExceptionRef) × IsExit objects e k v b
-        × ((objects' : List Payload) (b' : Obj) → Grows objects objects' → IsExit objects' e k v b' → Runs objects' setting s (exit_of b' ∷ []) t)
-
-    hears_none : (w next : Expect) → Hears objects setting w (exit_of b) next → ⊥
+    hears_none : (w next : Expect) → Hears objects setting w exit next → ⊥
     hears_none expect.Start next hears = hears
     hears_none expect.Go next hears = hears
     hears_none (expect.Answer w) next hears = hears
@@ -197,32 +188,26 @@ one_last [] x y is = (refl, cc)
 one_last (u ∷ []) x y is = absurd (cc is)
 one_last (u ∷ w ∷ us) x y is = absurd (cc is)
 
-module _ (setting : Setting) (x k v b : Obj) (own : Option PyBaseExceptionRef) (at : ℕ) (objects : List Payload) (may : UnitAsks (slice_get setting.code.code.instructions.items at) (request.Exit x k v b)) where
-  abbrev exit : Obj → Own
-  exit traceback = exit_of x k v b own at traceback
+module _ (objects : List Payload) (setting : Setting) (x k v b : Obj) (own : Option PyBaseExceptionRef) (at : ℕ)
+    (may : UnitAsks (slice_get setting.code.code.instructions.items at) (request.Exit x k v b)) where
+  abbrev exit_asked : Own
+  exit_asked = exit x k v b own at
 
-  told_on : (s t : State) (xs : List Own) → xs ≡ exit b ∷ [] → Runs objects setting s xs t → RunsTold x k v b own at objects setting t s
+  told_on : (s t : State) (xs : List Own) → xs ≡ exit_asked ∷ [] → Runs objects setting s xs t → IsSomeExit objects k v b
   told_on s _ _ is none = absurd (cc is)
   told_on s _ _ is (on {us = us} {vs = vs} {t = t} u run step) = by_step u vs step (λ first. told_on s t us first run) is
     where
-      by_step : (u : State) (ws : List Own) → Steps objects setting t ws u → (us ≡ exit b ∷ [] → RunsTold x k v b own at objects setting t s) → us ++ ws ≡ exit b ∷ [] → RunsTold x k v b own at objects setting u s
-      by_step _ _ (silent u goes) earlier is =
-          let (e, exits, others) = earlier (sym (append-nil us) ∙ is) in
-          (e, exits, λ objects' b' grows exits'. on u (others objects' b' grows exits') (step_grown objects objects' grows setting t u [] (silent u goes)))
+      by_step : (u : State) (ws : List Own) → Steps objects setting t ws u → (us ≡ exit_asked ∷ [] → IsSomeExit objects k v b) → us ++ ws ≡ exit_asked ∷ [] → IsSomeExit objects k v b
+      by_step _ _ (silent u goes) earlier is = earlier (sym (append-nil us) ∙ is)
       by_step _ _ (telling y u tells) earlier is =
-          let (before, same) = one_last us y (exit b) is in
-          let silently : Runs objects setting s [] t = subst (λ (ws : List Own). Runs objects setting s ws t) before run in
-          let told : MayLead objects (moves setting t.wants t) (Tells (exit b) u) = subst (λ (z : Own). MayLead objects (moves setting t.wants t) (Tells z u)) same tells in
-          let (e, exits, others) = move_told x k v b own at objects setting u t may told in
-          (e, exits, λ objects' b' grows exits'. on u (run_grown objects objects' grows setting s t [] silently) (telling (exit b') u (others objects' b' grows exits')))
+          let (before, same) = one_last us y exit_asked is in
+          move_told x k v b own at objects setting u t may (subst (λ (z : Own). MayLead objects (moves setting t.wants t) (Tells z u)) same tells)
       by_step _ _ (hearing y w hears under) earlier is =
-          let (before, same) = one_last us y (exit b) is in
+          let (before, same) = one_last us y exit_asked is in
           absurd (hears_none x k v b own at objects setting t t.wants w (subst (λ (z : Own). Hears objects setting t.wants z w) same hears))
 
 -- a run that asks for an exit, and tells nothing beside it, tells it an exception between its class and a traceback or None, or
--- three times None, and may as well tell it any other traceback
+-- three times None
 pub exit_told : (objects : List Payload) (setting : Setting) (s t : State) (x k v b : Obj) (own : Option PyBaseExceptionRef) (at : ℕ) → UnitAsks (slice_get setting.code.code.instructions.items at) (request.Exit x k v b)
-    → Runs objects setting s (Asks at (request.Exit x k v b) own ∷ []) t
-    → (e : Option PyBaseExceptionRef) × IsExit objects e k v b
-    × ((objects' : List Payload) (b' : Obj) → Grows objects objects' → IsExit objects' e k v b' → Runs objects' setting s (Asks at (request.Exit x k v b') own ∷ []) t)
-exit_told objects setting s t x k v b own at may run = told_on setting x k v b own at objects may s t _ refl run
+    → Runs objects setting s (Asks at (request.Exit x k v b) own ∷ []) t → IsSomeExit objects k v b
+exit_told objects setting s t x k v b own at may run = told_on objects setting x k v b own at may s t _ refl run

@@ -1,6 +1,8 @@
 -- Events of which no link comes, where none is set.
-use Rattle.std.proofs.Common.{◌≡◌, ◌≤◌, ◌<◌, ◌+◌, ◌++◌, ◌&&◌, ℕ, suc, Bool, true, false, not, List, [], ◌∷◌, refl, length, length-append, arith}
+use Rattle.std.proofs.Common.{◌≡◌, ◌≤◌, ◌<◌, ◌+◌, ◌++◌, ◌&&◌, ◌||◌, ℕ, suc, Bool, true, false, not, List, [], ◌∷◌, refl, subst, length, length-append, arith, nat_lt}
+use Rattle.std.specs.Prelude.{◌==◌, nat_le}
 use Rattle.std.proofs.lemmas.Bool.{and_parts}
+use Rattle.std.proofs.lemmas.Bool.Decides.{nat_tests}
 use Rattle.py_objects.specs.declared.payload.Payload.{Payload}
 use Rattle.py_objects.specs.declared.edit.Change.{Change}
 use Rattle.py_objects.specs.declared.request.Request.{Request}
@@ -11,9 +13,11 @@ use Rattle.py_objects.specs.declared.event.ResumeHow.TheVariants as how
 use Rattle.py_objects.specs.declared.event.Event.{Event}
 use Rattle.py_objects.specs.declared.event.Event.TheVariants as event
 use Rattle.py_objects.specs.Objects.{Obj}
-use Rattle.py_run.specs.Run.{Act, State, after}
+use Rattle.py_run.specs.Run.{Act, State, after, start, state_after}
 use Rattle.py_run.specs.Raises.{is_raising}
 use Rattle.py_run.specs.Links.{AsksNow, ComeOf, ComeOfTop, Lines, LinksCome, MayUnder, RaisesIf, Scene, TellsNow, links_at, scene_at}
+use Rattle.py_run.proofs.LinksLemmas.{links_join}
+use Rattle.py_run.proofs.OwnLemmas.{state_lists}
 
 -- whether an answer raises nothing in the innermost of these activations
 abbrev pub raises_nothing : List Act → GotAnswer → Bool
@@ -42,6 +46,20 @@ link_nothing s (e ∷ es) = links_nothing s e && link_nothing (after s e) es
 -- no link was set at the events from a number on, as many as these
 abbrev pub NoneSet : List Change → ℕ → List Event → Type 0
 NoneSet changes n es = (k : ℕ) → n ≤ k → k < n + length es → links_at (suc k) changes ≡ []
+
+-- whether none of these changes is at the events from a number on, so many
+abbrev pub none_set : List Change → (from count : ℕ) → Bool
+none_set [] from count = true
+none_set (c ∷ cs) from count = (nat_le c.after from || nat_lt (from + count) c.after) && none_set cs from count
+
+not_at : (after from count k : ℕ) → (nat_le after from || nat_lt (from + count) after) ≡ true → from ≤ k → k < from + count → (after == suc k) ≡ false
+not_at after from count k apart low high = grind (arith, nat_tests, apart, low, high)
+
+unset : (changes : List Change) (from : ℕ) (es : List Event) → none_set changes from (length es) ≡ true → NoneSet changes from es
+unset [] from es none k low high = refl
+unset (c ∷ cs) from es none k low high =
+    let (apart, rest) = and_parts (nat_le c.after from || nat_lt (from + length es) c.after) _ none in
+    rw (not_at c.after from (length es) k apart low high) (unset cs from es rest k low high)
 
 asks_none : (made now : List Payload) (r : Request) → tells_nothing r ≡ true → AsksNow made now r
 asks_none made now (request.Exit x c e t) none = absurd (cc none)
@@ -80,3 +98,15 @@ module _ (may : MayUnder) (lines : Lines) (made : List Payload) (changes : List 
         ([], come_none before s e first, unset (length before) (omega arith) (omega arith)),
         no_links (before ++ e ∷ []) (after s e) es rest (λ k low high. unset k (omega (arith, low, longer)) (omega (arith, high, longer))),
       )
+
+  -- so they are where no change is at these events
+  pub quiet : (before es : List Event) → link_nothing (state_after start before) es ≡ true → none_set changes (length before) (length es) ≡ true
+      → LinksCome may lines made changes before (state_after start before) es
+  quiet before es none apart = no_links before (state_after start before) es none (unset changes (length before) es apart)
+
+  -- and then the links of later events come
+  pub quiet_then : (before es fs : List Event) → link_nothing (state_after start before) es ≡ true → none_set changes (length before) (length es) ≡ true
+      → LinksCome may lines made changes (before ++ es) (state_after start (before ++ es)) fs → LinksCome may lines made changes before (state_after start before) (es ++ fs)
+  quiet_then before es fs none apart later =
+      links_join may lines made changes before (state_after start before) es fs (quiet before es none apart)
+      (subst (λ s. LinksCome may lines made changes (before ++ es) s fs) (state_lists start before es) later)

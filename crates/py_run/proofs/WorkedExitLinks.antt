@@ -12,243 +12,130 @@ use Rattle.py_run.specs.Links.{LinksCome, ObjectEdit, noted, lines_in, named_by,
 use Rattle.py_run.specs.Worked.{object, anything}
 use Rattle.py_run.specs.WorkedExit.{put, objects, raising, exited, exit, again, told_another, told_none, events, first_entry, entries_again, AreLinked, Linked, Unlinked}
 use Rattle.py_run.proofs.LinksLemmas.{links_rest}
+use Rattle.py_run.proofs.NoLinks.{quiet, quiet_then}
 use Rattle.py_run.proofs.Journals.{all_below}
 
 pub linked : Linked events (first_entry ∷ [])
-linked k lines = record {
-  come = (
-    tt,
-    ([], refl, refl),
-    (
-      tt,
-      ([], refl, refl),
-      (
+linked k lines =
+    let quietly = quiet (λ throws. anything) (lines_in k) objects (first_entry ∷ []) in
+    let then = quiet_then (λ throws. anything) (lines_in k) objects (first_entry ∷ []) in
+    record {
+      come = then [] (take 14 events) (drop 14 events) refl refl (
         tt,
-        ([], refl, refl),
         (
-          tt,
+          (object 7, edit.Link link.Traceback (Some (object 8))) ∷ [],
+          record {
+            contexts = [];
+            gets = refl;
+            entries = (object 7, edit.Link link.Traceback (Some (object 8))) ∷ [];
+            puts = record {
+              frame = record { number = 9 };
+              is_frame = record { at = 0; numbered = refl; activation = _; is_made = refl; body = _; is_function = refl; entry = refl; made_with = refl };
+              line = 9;
+              is_line = lines.0;
+              entry = object 8;
+              has = refl;
+              newer = all_below 8 (named_by (take 14 events) ++ []) refl;
+              puts = refl;
+            };
+            both = refl;
+          },
+          refl,
+        ),
+        (
+          inr (_, refl, refl, refl),
           ([], refl, refl),
-          (
-            tt,
+          then (take 16 events) (take 6 (drop 16 events)) (drop 22 events) refl refl (
+            inr (_, refl, refl, refl),
             ([], refl, refl),
-            (
-              tt,
-              ([], refl, refl),
-              (
-                tt,
-                ([], refl, refl),
-                (
-                  tt,
-                  ([], refl, refl),
-                  (
-                    tt,
-                    ([], refl, refl),
-                    (
-                      tt,
-                      ([], refl, refl),
-                      (
-                        tt,
-                        ([], refl, refl),
-                        (
-                          tt,
-                          ([], refl, refl),
-                          (
-                            tt,
-                            ([], refl, refl),
-                            (
-                              tt,
-                              ([], refl, refl),
-                              (
-                                tt,
-                                (
-                                  (object 7, edit.Link link.Traceback (Some (object 8))) ∷ [],
-                                  record {
-                                    contexts = [];
-                                    gets = refl;
-                                    entries = (object 7, edit.Link link.Traceback (Some (object 8))) ∷ [];
-                                    puts = record {
-                                      frame = record { number = 9 };
-                                      is_frame = record { at = 0; numbered = refl; activation = _; is_made = refl; body = _; is_function = refl; entry = refl; made_with = refl };
-                                      line = 9;
-                                      is_line = lines.0;
-                                      entry = object 8;
-                                      has = refl;
-                                      newer = all_below 8 (named_by (take 14 events) ++ []) refl;
-                                      puts = refl;
-                                    };
-                                    both = refl;
-                                  },
-                                  refl,
-                                ),
-                                (inr (_, refl, refl, refl), ([], refl, refl), (tt, ([], refl, refl), (tt, ([], refl, refl), (tt, ([], refl, refl), (tt, ([], refl, refl), (tt, ([], refl, refl), (tt, ([], refl, refl), (inr (_, refl, refl, refl), ([], refl, refl), (tt, ([], refl, refl), (tt, ([], refl, refl), (tt, ([], refl, refl), (tt, ([], refl, refl), (tt, ([], refl, refl), (tt, ([], refl, refl), (tt, ([], refl, refl), (tt, ([], refl, refl), tt)))))))))))))))),
-                              ),
-                            ),
-                          ),
-                        ),
-                      ),
-                    ),
-                  ),
-                ),
-              ),
-            ),
+            quietly (take 23 events) (drop 23 events) refl refl,
           ),
         ),
-      ),
-    ),
-  );
-  alone = (refl, lit≤ tt, lit≤ tt, tt);
-}
+      );
+      alone = (refl, lit≤ tt, lit≤ tt, tt);
+    }
 
 pub linked_again : Linked (again (object 16)) entries_again
-linked_again k lines = record {
-  come = (
-    tt,
-    ([], refl, refl),
-    (
-      tt,
-      ([], refl, refl),
-      (
+linked_again k lines =
+    let then = quiet_then (λ throws. anything) (lines_in k) objects entries_again in
+    let told = again (object 16) in
+    record {
+      come = then [] (take 14 told) (drop 14 told) refl refl (
         tt,
-        ([], refl, refl),
         (
-          tt,
+          (object 7, edit.Link link.Traceback (Some (object 8))) ∷ [],
+          record {
+            contexts = [];
+            gets = refl;
+            entries = (object 7, edit.Link link.Traceback (Some (object 8))) ∷ [];
+            puts = record {
+              frame = record { number = 9 };
+              is_frame = record { at = 0; numbered = refl; activation = _; is_made = refl; body = _; is_function = refl; entry = refl; made_with = refl };
+              line = 9;
+              is_line = lines.0;
+              entry = object 8;
+              has = refl;
+              newer = all_below 8 (named_by (take 14 told) ++ []) refl;
+              puts = refl;
+            };
+            both = refl;
+          },
+          refl,
+        ),
+        (
+          inr (_, refl, refl, refl),
           ([], refl, refl),
-          (
+          then (take 16 told) (take 3 (drop 16 told)) (drop 19 told) refl refl (
             tt,
-            ([], refl, refl),
             (
+              (object 7, edit.Link link.Traceback (Some (object 10))) ∷ [],
+              record {
+                contexts = [];
+                gets = refl;
+                entries = (object 7, edit.Link link.Traceback (Some (object 10))) ∷ [];
+                puts = record {
+                  frame = record { number = 14 };
+                  is_frame = record { at = 3; numbered = refl; activation = _; is_made = refl; body = _; is_function = refl; entry = refl; made_with = refl };
+                  line = 4;
+                  is_line = lines.2;
+                  entry = object 10;
+                  has = refl;
+                  newer = all_below 10 (named_by (take 19 told) ++ named_in (first_entry ∷ [])) refl;
+                  puts = refl;
+                };
+                both = refl;
+              },
+              refl,
+            ),
+            then (take 20 told) (take 1 (drop 20 told)) (drop 21 told) refl refl (
               tt,
-              ([], refl, refl),
               (
-                tt,
-                ([], refl, refl),
-                (
-                  tt,
-                  ([], refl, refl),
-                  (
-                    tt,
-                    ([], refl, refl),
-                    (
-                      tt,
-                      ([], refl, refl),
-                      (
-                        tt,
-                        ([], refl, refl),
-                        (
-                          tt,
-                          ([], refl, refl),
-                          (
-                            tt,
-                            ([], refl, refl),
-                            (
-                              tt,
-                              ([], refl, refl),
-                              (
-                                tt,
-                                (
-                                  (object 7, edit.Link link.Traceback (Some (object 8))) ∷ [],
-                                  record {
-                                    contexts = [];
-                                    gets = refl;
-                                    entries = (object 7, edit.Link link.Traceback (Some (object 8))) ∷ [];
-                                    puts = record {
-                                      frame = record { number = 9 };
-                                      is_frame = record { at = 0; numbered = refl; activation = _; is_made = refl; body = _; is_function = refl; entry = refl; made_with = refl };
-                                      line = 9;
-                                      is_line = lines.0;
-                                      entry = object 8;
-                                      has = refl;
-                                      newer = all_below 8 (named_by (take 14 events) ++ []) refl;
-                                      puts = refl;
-                                    };
-                                    both = refl;
-                                  },
-                                  refl,
-                                ),
-                                (
-                                  inr (_, refl, refl, refl),
-                                  ([], refl, refl),
-                                  (
-                                    tt,
-                                    ([], refl, refl),
-                                    (
-                                      tt,
-                                      ([], refl, refl),
-                                      (
-                                        tt,
-                                        ([], refl, refl),
-                                        (
-                                          tt,
-                                          (
-                                            (object 7, edit.Link link.Traceback (Some (object 10))) ∷ [],
-                                            record {
-                                              contexts = [];
-                                              gets = refl;
-                                              entries = (object 7, edit.Link link.Traceback (Some (object 10))) ∷ [];
-                                              puts = record {
-                                                frame = record { number = 14 };
-                                                is_frame = record { at = 3; numbered = refl; activation = _; is_made = refl; body = _; is_function = refl; entry = refl; made_with = refl };
-                                                line = 4;
-                                                is_line = lines.2;
-                                                entry = object 10;
-                                                has = refl;
-                                                newer = all_below 10 (named_by (take 19 (again (object 16))) ++ named_in (first_entry ∷ [])) refl;
-                                                puts = refl;
-                                              };
-                                              both = refl;
-                                            },
-                                            refl,
-                                          ),
-                                          (
-                                            tt,
-                                            ([], refl, refl),
-                                            (
-                                              tt,
-                                              (
-                                                (object 7, edit.Link link.Traceback (Some (object 16))) ∷ [],
-                                                record {
-                                                  contexts = [];
-                                                  gets = refl;
-                                                  entries = (object 7, edit.Link link.Traceback (Some (object 16))) ∷ [];
-                                                  puts = record {
-                                                    frame = record { number = 9 };
-                                                    is_frame = record { at = 0; numbered = refl; activation = _; is_made = refl; body = _; is_function = refl; entry = refl; made_with = refl };
-                                                    line = 8;
-                                                    is_line = lines.1;
-                                                    entry = object 16;
-                                                    has = refl;
-                                                    newer = all_below 16 (named_by (take 21 (again (object 16))) ++ named_in (first_entry ∷ put 20 10 ∷ [])) refl;
-                                                    puts = refl;
-                                                  };
-                                                  both = refl;
-                                                },
-                                                refl,
-                                              ),
-                                              (inr (_, refl, refl, refl), ([], refl, refl), tt),
-                                            ),
-                                          ),
-                                        ),
-                                      ),
-                                    ),
-                                  ),
-                                ),
-                              ),
-                            ),
-                          ),
-                        ),
-                      ),
-                    ),
-                  ),
-                ),
+                (object 7, edit.Link link.Traceback (Some (object 16))) ∷ [],
+                record {
+                  contexts = [];
+                  gets = refl;
+                  entries = (object 7, edit.Link link.Traceback (Some (object 16))) ∷ [];
+                  puts = record {
+                    frame = record { number = 9 };
+                    is_frame = record { at = 0; numbered = refl; activation = _; is_made = refl; body = _; is_function = refl; entry = refl; made_with = refl };
+                    line = 8;
+                    is_line = lines.1;
+                    entry = object 16;
+                    has = refl;
+                    newer = all_below 16 (named_by (take 21 told) ++ named_in (first_entry ∷ put 20 10 ∷ [])) refl;
+                    puts = refl;
+                  };
+                  both = refl;
+                },
+                refl,
               ),
+              (inr (_, refl, refl, refl), ([], refl, refl), tt),
             ),
           ),
         ),
-      ),
-    ),
-  );
-  alone = (refl, lit≤ tt, lit≤ tt, (refl, lit≤ tt, lit≤ tt, (refl, lit≤ tt, lit≤ tt, tt)));
-}
+      );
+      alone = (refl, lit≤ tt, lit≤ tt, (refl, lit≤ tt, lit≤ tt, (refl, lit≤ tt, lit≤ tt, tt)));
+    }
 
 -- behind these events the links of others come
 abbrev Rest : List Change → Codes → List Event → List Event → Type 0

@@ -206,8 +206,9 @@ abbrev pub HasFewer : ℕ → CommandResult → Type 0
 HasFewer turns (outcome.Ran j) = length j.events < turns
 HasFewer turns result = Unit {0}
 
--- what the runs of the script that bytes are settle. Where it has no raw code: where a whole one has at most so many events, turns never run out; where one that isn't whole has
--- as many, none is answered as whole; the text that is written is that of any such run; and where no whole one has just so many, an answered one has fewer
+-- what the runs of the script that bytes are settle. Where it has no raw code and no report: where a whole one has at most so many events, turns
+-- never run out; where one that isn't whole has as many, none is answered as whole; the text that is written is that of any such run. Of any script:
+-- where no whole one has just so many, an answered one has fewer
 pub record IsSettled (bytes : List ℕ) (turns : ℕ) (result : CommandResult) : Type 0 where
   pub never_cut : (j : Journal) → IsCoreFrom bytes → IsWholeFrom bytes j → length j.events ≤ turns → status_in result ≡ 4 → ⊥
   pub never_whole : (j : Journal) → IsCoreFrom bytes → IsUnfinishedFrom bytes j → turns ≤ length j.events → status_in result ≡ 0 → ⊥
