@@ -5,3 +5,5 @@
 mod machine;
 #[cfg(test)]
 mod normalizing;
+#[cfg(test)]
+mod printing;

@@ -12,6 +12,7 @@ use Rattle.py_lines.specs.declared.drive.DriveAtom.{DriveAtom}
 use Rattle.py_lines.specs.declared.drive.DriveAtom.TheVariants as atom
 use Rattle.py_lines.specs.declared.drive.DriveLine.{DriveLine}
 use Rattle.py_lines.specs.declared.drive.DriveLine.TheVariants as drive
+use Rattle.py_run.specs.declared.drive.Told.TheVariants as told
 use Rattle.py_run.specs.Run.{Pose, Requests, Forms, Reports, Posed}
 use Rattle.py_meaning.specs.Whole.{IsLeftBy, IsOf, IsThrown, AreOf, AsksThis, ReportsThis, Poses, AreAsked}
 
@@ -58,7 +59,9 @@ module _ (objects : List Payload) (es more : List Event) where
   poses : (d : DriveLine) (x : Pose) → Poses objects es d x → Poses objects (es ++ more) d x
   poses d (Requests r) asks = asks_this d r asks
   poses d (Forms x) asks = asks
-  poses d (Reports e) reports = reports_this d e reports
+  poses d (Reports (told.Report e)) reports = reports_this d e reports
+  poses d (Reports (told.Part e)) reports = reports
+  poses d (Reports (told.Exit e)) reports = reports
 
   -- the questions of drives stay theirs as more events come
   pub asked_on : (ds : List DriveLine) (qs : List Posed) → AreAsked objects es ds qs

@@ -16,6 +16,7 @@ use Rattle.py_lines.specs.declared.drive.DriveAtom.{DriveAtom}
 use Rattle.py_lines.specs.declared.drive.DriveAtom.TheVariants as atom
 use Rattle.py_lines.specs.declared.drive.DriveLine.{DriveLine}
 use Rattle.py_lines.specs.declared.drive.DriveLine.TheVariants as drive
+use Rattle.py_run.specs.declared.drive.Told.TheVariants as told
 use Rattle.py_run.specs.Run.{Pose, Requests, Forms, Reports, Posed, Plan, State, start, after, state_after}
 use Rattle.py_run.specs.Coming.{Past, nothing, past_after, MayCome, Comes}
 use Rattle.py_run.proofs.RunLemmas.{comes_front}
@@ -165,8 +166,12 @@ module _ (S : Relation) where
       poses_agree d (Requests r) (Requests r') plain may asks asks' = asks_agree d r r' may asks asks'
       poses_agree d (Forms x) y plain may asks asks' = absurd asks
       poses_agree d (Requests r) (Forms y) plain may asks asks' = absurd asks'
-      poses_agree d (Reports e) y plain may asks asks' = absurd (none_reported d es e plain asks)
-      poses_agree d (Requests r) (Reports e) plain may asks asks' = absurd (none_reported d es' e plain asks')
+      poses_agree d (Reports (told.Report e)) y plain may asks asks' = absurd (none_reported d es e plain asks)
+      poses_agree d (Reports (told.Part e)) y plain may asks asks' = absurd asks
+      poses_agree d (Reports (told.Exit e)) y plain may asks asks' = absurd asks
+      poses_agree d (Requests r) (Reports (told.Report e)) plain may asks asks' = absurd (none_reported d es' e plain asks')
+      poses_agree d (Requests r) (Reports (told.Part e)) plain may asks asks' = absurd asks'
+      poses_agree d (Requests r) (Reports (told.Exit e)) plain may asks asks' = absurd asks'
 
     -- ---- drives of a run
 

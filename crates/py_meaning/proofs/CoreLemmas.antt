@@ -11,6 +11,7 @@ use Rattle.py_grammar.proofs.Verdicts.{one_tree}
 use Rattle.py_objects.specs.declared.refs.PyBaseExceptionRef.{PyBaseExceptionRef}
 use Rattle.py_objects.specs.declared.payload.Payload.{Payload}
 use Rattle.py_objects.specs.declared.event.Event.{Event}
+use Rattle.py_run.specs.declared.drive.Told.TheVariants as told
 use Rattle.py_run.specs.Run.{Pose, Requests, Forms, Reports, Posed, to_report, to_report_by}
 use Rattle.py_meaning.specs.Whole.{ReportsThis, Poses, AreAsked}
 use Rattle.py_meaning.specs.Core.{is_core, is_plain, IsCore, IsCoreFrom}
@@ -74,7 +75,9 @@ none_reported (drive.Close n) es e plain reports = reports
 plain_pose : (store : List Payload) (events : List Event) (d : DriveLine) (x : Pose) → is_plain d ≡ true → Poses store events d x → to_report x ≡ None
 plain_pose store events d (Requests r) plain asks = refl
 plain_pose store events d (Forms x) plain asks = absurd asks
-plain_pose store events d (Reports e) plain asks = absurd (none_reported d events e plain asks)
+plain_pose store events d (Reports (told.Report e)) plain asks = absurd (none_reported d events e plain asks)
+plain_pose store events d (Reports (told.Part e)) plain asks = absurd asks
+plain_pose store events d (Reports (told.Exit e)) plain asks = absurd asks
 
 -- and neither do others
 pub plain_asked : (store : List Payload) (events : List Event) (drives : List DriveLine) (asked : List Posed) → list_all is_plain drives ≡ true → AreAsked store events drives asked

@@ -42,6 +42,7 @@ use Rattle.py_answers.specs.Answers.{This, Reply, Passes, Replies, CallsAs, Give
 use Rattle.py_coro.specs.declared.coro.CoroEnd.{CoroEnd}
 use Rattle.py_meaning.specs.Core.{is_plain}
 use Rattle.py_meaning.proofs.CoreLemmas.{none_reported}
+use Rattle.py_run.specs.declared.drive.Told.TheVariants as told
 use Rattle.py_run.specs.Run.{Signature, Pose, Requests, Forms, Reports, Posed, Plan, Activation, Phase, Asking, IsTop, requested, makings, to_report, question, start, state_after}
 use Rattle.py_run.specs.Calls.{Course, Says, Enters, Setting, LeavesCalled, IsDue, refusal, made_at, bound_by, CallsFunction, ComesTo}
 use Rattle.py_run.specs.Coming.{Past, setting, IsOfKind, IsReply, MayCome, nothing, Comes, EachTells}
@@ -148,7 +149,9 @@ pub posed_request : (store : List Payload) (events : List Event) (d : DriveLine)
     → (r : Request) × (requested x ≡ Some r) × AsksThis store events d r × ((makings x ≡ None) × (to_report x ≡ None))
 posed_request store events d (Requests r) plain asks = (r, refl, asks, (refl, refl))
 posed_request store events d (Forms x) plain asks = absurd asks
-posed_request store events d (Reports e) plain asks = absurd (none_reported d events e plain asks)
+posed_request store events d (Reports (told.Report e)) plain asks = absurd (none_reported d events e plain asks)
+posed_request store events d (Reports (told.Part e)) plain asks = absurd asks
+posed_request store events d (Reports (told.Exit e)) plain asks = absurd asks
 
 -- no more drives are begun than the script has
 pub few_asked : (store : List Payload) (events : List Event) (ds : List DriveLine) (qs : List Posed) → AreAsked store events ds qs → length qs ≤ length ds

@@ -1,6 +1,6 @@
 -- What the definitions say of the journal with a report.
 use Rattle.std.proofs.Common.{◌≡◌, ℕ, zero, suc, ◌<◌, List, [], ◌∷◌, ◌++◌, Option, Some, None, refl, sym, ap, subst, inl, inr, ⊎_elim, length, get_or, lit<, lit≤, ◌∙◌, append-nil, arith}
-use Rattle.std.specs.Prelude.{codes, decimal, encode_utf8_all, slice_get}
+use Rattle.std.specs.Prelude.{codes, decimal, drop, encode_utf8_all, slice_get, take}
 use Rattle.std.proofs.lemmas.Fmt.{decimal_digit}
 use Rattle.std.proofs.lemmas.Option.{same_Some}
 use Rattle.py_code.specs.Codes.{Codes}
@@ -21,6 +21,7 @@ use Rattle.py_objects.specs.Changes.{store_at}
 use Rattle.py_objects.specs.Objects.{Name, Obj, AllFit}
 use Rattle.py_objects.specs.Singletons.{none_object}
 use Rattle.py_objects.specs.Own.{own_events, own_from, told_by}
+use Rattle.py_objects.specs.Telling.{ThrowTest}
 use Rattle.py_exceptions.specs.Orders.{IsOrder}
 use Rattle.py_exceptions.specs.Walks.{led, link_at}
 use Rattle.py_tree.specs.Scene.{anywhere}
@@ -34,14 +35,17 @@ use Rattle.py_reports.specs.Laws.{OneReport}
 use Rattle.py_reports.specs.Reports.{IsReport}
 use Rattle.py_reports.specs.Scenes.{Scene, SourceLines}
 use Rattle.py_answers.specs.Answers.{This, Fails, Passes, unknown_text, IsRaised}
+use Rattle.py_run.specs.declared.drive.Told.{Told}
+use Rattle.py_run.specs.declared.drive.Told.TheVariants as told
 use Rattle.py_run.specs.Run.{Plan, Pose, Requests, Forms, Reports, Posed, start, state_after, reporting, requested, requested_by, makings, makings_of, to_report, to_report_by}
 use Rattle.py_run.specs.Coming.{nothing as at_first, Comes}
-use Rattle.py_run.specs.Links.{AreLinks, named_by, named_in}
+use Rattle.py_run.specs.Links.{AreLinks, lines_in, named_by, named_in}
 use Rattle.py_run.specs.Reports.{Origins, AreReported, IsReportText, scene_among}
 use Rattle.py_run.proofs.GrownReports.{reports_both}
+use Rattle.py_run.proofs.NoLinks.{quiet, quiet_then}
 use Rattle.py_run.proofs.ReportsLemmas.{nothing_reported}
 use Rattle.py_meaning.specs.Reported.{origins_of, sources_of}
-use Rattle.py_meaning.specs.Whole.{AreAsked, IsRunOf, Poses, Traces, plan_of, raised_in}
+use Rattle.py_meaning.specs.Whole.{AreAsked, IsRunOf, Poses, Traces, TracesUnder, plan_of, raised_in}
 use Rattle.py_meaning.specs.Text.{result_text, text_of}
 use Rattle.py_meaning.specs.Worked.{object, exception}
 use Rattle.py_meaning.specs.WorkedLoop.{asked, not_defined, unknown_decls}
@@ -79,7 +83,7 @@ is_new_error = is_raised own (asked []) NameError not_defined (object 4) (object
 
 -- the question of the second drive
 abbrev report_drive : Posed
-report_drive = record { pose = Reports (Some (exception 6)); entered = 0 }
+report_drive = record { pose = Reports (told.Report (Some (exception 6))); entered = 0 }
 
 -- what the run is of
 abbrev plan : Plan
@@ -100,7 +104,7 @@ comes text = (
             (refl, refl),
             (
               (refl, refl, inl (Passes (This (exception 6)), inl (_, refl, (refl, refl)), refl)),
-              ((refl, refl, lit< tt), ((refl, refl, inr (refl, (Some (exception 6), refl, (text, refl)))), tt)),
+              ((refl, refl, lit< tt), ((refl, refl, inr (refl, (told.Report (Some (exception 6)), refl, (text, refl)))), tt)),
             ),
           ),
         ),
@@ -174,17 +178,17 @@ is_without_source = (
         (sym (decimal_digit 2 (omega arith)))
 
 -- of a drive and its report there is one report
-one_reported : (plan : Plan) (origins : Origins) (made : List Payload) (changes : List Change) (before : List Event) (d : ℕ) (text : Name) (e : Option PyBaseExceptionRef)
+one_reported : (plan : Plan) (origins : Origins) (made : List Payload) (changes : List Change) (before : List Event) (d : ℕ) (text : Name) (e : Told)
     → reporting plan (state_after start (before ++ event.Drive d ∷ [])) ≡ Some e → IsReportText (scene_among origins (store_at made changes (length (before ++ event.Drive d ∷ [])))) e text
     → AreReported plan origins made changes before (event.Drive d ∷ event.Result d (answer.Reported text) ∷ [])
 one_reported plan origins made changes before d text e asks is [] back d' text' e' same some = absurd (cc same)
 one_reported plan origins made changes before d text e asks is (x ∷ []) back d' text' e' same some =
     let first : x ≡ event.Drive d = cc same in
-    let told : text ≡ text' = cc same in
+    let same_text : text ≡ text' = cc same in
     let now : e ≡ e' = same_Some e e' (sym asks ∙ ap (λ (y : Event). reporting plan (state_after start (before ++ y ∷ []))) (sym first) ∙ some) in
     subst (λ (y : Event). IsReportText (scene_among origins (store_at made changes (length (before ++ y ∷ [])))) e' text') (sym first)
-    (subst (λ (f : Option PyBaseExceptionRef). IsReportText (scene_among origins (store_at made changes (length (before ++ event.Drive d ∷ [])))) f text') now
-    (subst (IsReportText (scene_among origins (store_at made changes (length (before ++ event.Drive d ∷ [])))) e) told is))
+    (subst (λ (f : Told). IsReportText (scene_among origins (store_at made changes (length (before ++ event.Drive d ∷ [])))) f text') now
+    (subst (IsReportText (scene_among origins (store_at made changes (length (before ++ event.Drive d ∷ [])))) e) same_text is))
 one_reported plan origins made changes before d text e asks is (x ∷ y ∷ []) back d' text' e' same some = absurd (cc same)
 one_reported plan origins made changes before d text e asks is (x ∷ y ∷ z ∷ front) back d' text' e' same some = absurd (cc same)
 
@@ -194,57 +198,44 @@ alone = (refl, lit≤ tt, lit≤ tt, tt)
 
 is_journal : (sources : List SourceLines) (text : Name) → IsReport (scene_with sources) (object 6) (encode_utf8_all text) → ComesWith sources (answer.Reported text)
 unfolding is_run_of
-is_journal sources text is k line = record {
-  run = is_run_of text;
-  links = record {
-    come = (
-      tt,
-      ([], refl, refl),
-      (
-        tt,
-        ([], refl, refl),
-        (
+is_journal sources text is k line =
+    let may = λ (throws : ThrowTest). TracesUnder throws (codes_in unknown_decls) (object 2) objects in
+    let es = events (answer.Reported text) in
+    record {
+      run = is_run_of text;
+      links = record {
+        come = quiet_then may (lines_in k) objects links [] (asked []) (drop 4 es) refl refl (
           tt,
-          ([], refl, refl),
           (
-            tt,
-            ([], refl, refl),
-            (
-              tt,
-              (
-                (object 6, edit.Link link.Traceback (Some (object 7))) ∷ [],
-                record {
-                  contexts = [];
-                  gets = refl;
-                  entries = (object 6, edit.Link link.Traceback (Some (object 7))) ∷ [];
-                  puts = record {
-                    frame = record { number = (object 3).number };
-                    is_frame = record { at = 0; numbered = refl; activation = _; is_made = refl; body = _; is_function = refl; entry = refl; made_with = refl };
-                    line = 2;
-                    is_line = line;
-                    entry = object 7;
-                    has = refl;
-                    newer = all_below (object 7).number (named_by (asked []) ++ named_in []) refl;
-                    puts = refl;
-                  };
-                  both = refl;
-                },
-                refl,
-              ),
-              (tt, ([], refl, refl), (tt, ([], refl, refl), (tt, ([], refl, refl), (tt, ([], refl, refl), tt)))),
-            ),
+            (object 6, edit.Link link.Traceback (Some (object 7))) ∷ [],
+            record {
+              contexts = [];
+              gets = refl;
+              entries = (object 6, edit.Link link.Traceback (Some (object 7))) ∷ [];
+              puts = record {
+                frame = record { number = (object 3).number };
+                is_frame = record { at = 0; numbered = refl; activation = _; is_made = refl; body = _; is_function = refl; entry = refl; made_with = refl };
+                line = 2;
+                is_line = line;
+                entry = object 7;
+                has = refl;
+                newer = all_below (object 7).number (named_by (asked []) ++ named_in []) refl;
+                puts = refl;
+              };
+              both = refl;
+            },
+            refl,
           ),
-        ),
-      ),
-    );
-    alone = alone;
-  };
-  reports =
-      let origins = origins_of (codes_in unknown_decls) sources in
-      reports_both plan origins objects links (raised []) (event.Drive 2 ∷ event.Result 2 (answer.Reported text) ∷ [])
-      (nothing_reported plan origins objects links [] (raised []) refl (lit≤ tt))
-      (one_reported plan origins objects links (raised []) 2 text (Some (exception 6)) refl is);
-}
+          quiet may (lines_in k) objects links (take 5 es) (drop 5 es) refl refl,
+        );
+        alone = alone;
+      };
+      reports =
+          let origins = origins_of (codes_in unknown_decls) sources in
+          reports_both plan origins objects links (raised []) (event.Drive 2 ∷ event.Result 2 (answer.Reported text) ∷ [])
+          (nothing_reported plan origins objects links [] (raised []) refl (lit≤ tt))
+          (one_reported plan origins objects links (raised []) 2 text (told.Report (Some (exception 6))) refl is);
+    }
 
 pub is_run : ComesTo (answer.Reported report)
 is_run = is_journal (sources_of script) report is_report
@@ -275,17 +266,19 @@ raised_first w (suc (suc (suc (suc (suc (suc (suc (suc (suc i))))))))) v at = ab
 
 -- a report drive requests nothing and has no exception made: it has that exception reported
 abbrev IsOfReport : Option Posed → Type 0
-IsOfReport q = (to_report_by q ≡ Some (Some (exception 6))) × (requested_by q ≡ None) × (makings_of q ≡ None)
+IsOfReport q = (to_report_by q ≡ Some (told.Report (Some (exception 6)))) × (requested_by q ≡ None) × (makings_of q ≡ None)
 
 posed : (w : DriveAnswer) (qs : List Posed) → AreAsked objects (events w) drives qs → 1 < length qs → IsOfReport (slice_get qs 1)
 posed w [] asked many = absurd (omega (arith, many))
 posed w (q ∷ []) asked many = absurd (omega (arith, many))
 posed w (p ∷ q ∷ qs) asked many = by q.pose asked.1.0.0
   where
-    by : (x : Pose) → Poses objects (events w) (drive.Report 1) x → (to_report x ≡ Some (Some (exception 6))) × (requested x ≡ None) × (makings x ≡ None)
+    by : (x : Pose) → Poses objects (events w) (drive.Report 1) x → (to_report x ≡ Some (told.Report (Some (exception 6)))) × (requested x ≡ None) × (makings x ≡ None)
     by (Requests r) poses = absurd poses
     by (Forms x) poses = absurd poses
-    by (Reports e) (i, v, at, is) = (ap Some (is ∙ ap raised_in (raised_first w i v at)), refl, refl)
+    by (Reports (told.Part e)) poses = absurd poses
+    by (Reports (told.Exit e)) poses = absurd poses
+    by (Reports (told.Report e)) (i, v, at, is) = (ap (λ (x : Option PyBaseExceptionRef). Some (told.Report x)) (is ∙ ap raised_in (raised_first w i v at)), refl, refl)
 
 -- the second drive tells a text
 tells_text : (w : DriveAnswer) → IsRunOf unknown_decls drives objects (events w) → (text : Name) × (w ≡ answer.Reported text)
@@ -296,10 +289,10 @@ tells_text w r =
 
 -- no journal tells another text
 no_other : OneReport → (text : Name) → (encode_utf8_all report ≡ encode_utf8_all text → ⊥) → NeverComesTo (answer.Reported text)
-no_other one told other k j =
-    let (reports, requests, forms) = posed (answer.Reported told) j.run.asked j.run.are_asked j.run.run.comes.1.1.1.1.1.1.1.0.2 in
-    other (one (scene_with (sources_of script)) (object 6) (encode_utf8_all report) (encode_utf8_all told) is_report
-    (j.reports (raised (event.Drive 2 ∷ [])) [] 2 told (Some (exception 6)) refl reports))
+no_other one text other k j =
+    let (reports, requests, forms) = posed (answer.Reported text) j.run.asked j.run.are_asked j.run.run.comes.1.1.1.1.1.1.1.0.2 in
+    other (one (scene_with (sources_of script)) (object 6) (encode_utf8_all report) (encode_utf8_all text) is_report
+    (j.reports (raised (event.Drive 2 ∷ [])) [] 2 text (told.Report (Some (exception 6))) refl reports))
 
 pub no_source_line_left_out : OneReport → NeverComesTo (answer.Reported without_source)
 no_source_line_left_out one = no_other one without_source (λ same.
@@ -323,7 +316,7 @@ no_other_line one = no_other one with_other_line (λ same.
 
 -- what is no text is no report
 no_text : (w : DriveAnswer) → ((text : Name) → w ≡ answer.Reported text → ⊥) → NeverComesTo w
-no_text w other k j = let (told, is) = tells_text w j.run in other told is
+no_text w other k j = let (text, is) = tells_text w j.run in other text is
 
 pub no_raise_in_its_place : NeverComesTo (answer.Raises (exception 6))
 no_raise_in_its_place = no_text (answer.Raises (exception 6)) (λ text is. cc is)
@@ -333,10 +326,10 @@ no_value_in_its_place = no_text (answer.Returns none_object) (λ text is. cc is)
 
 -- a call has nothing reported
 none_of_a_call : (text : Name) (qs : List Posed) → AreAsked objects (call_reported text) drives qs → to_report_by (slice_get qs 0) ≡ None
-none_of_a_call told [] asked = refl
-none_of_a_call told (q ∷ qs) asked = let (r, requests, asks, none) = posed_request objects (call_reported told) (drive.Call (codes "f") []) q.pose refl asked.0.0 in none.1
+none_of_a_call text [] asked = refl
+none_of_a_call text (q ∷ qs) asked = let (r, requests, asks, none) = posed_request objects (call_reported text) (drive.Call (codes "f") []) q.pose refl asked.0.0 in none.1
 
 pub no_report_of_a_call : NoCallReports
-no_report_of_a_call told r =
-    let none = none_of_a_call told r.asked r.are_asked in
+no_report_of_a_call text r =
+    let none = none_of_a_call text r.asked r.are_asked in
     ⊎_elim (λ replied. absurd replied.2) (λ reported. absurd (cc (sym none ∙ reported.1.1))) r.run.comes.1.1.1.1.1.1.0.2

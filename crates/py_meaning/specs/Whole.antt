@@ -38,6 +38,8 @@ use Rattle.py_grammar.specs.declared.script.Script.{Script}
 use Rattle.py_grammar.specs.Grammar.{Decl, ClassDecl, ManagerDecl, decl_name, Coded, OfBody, OfRaw, coded_name, codes_in}
 use Rattle.py_grammar.specs.Script.{decls_of, IsReadScript}
 use Rattle.py_exceptions.specs.BuiltIn.{IsClassOf}
+use Rattle.py_run.specs.declared.drive.Told.{Told}
+use Rattle.py_run.specs.declared.drive.Told.TheVariants as told
 use Rattle.py_run.specs.declared.journal.Journal.{Journal}
 use Rattle.py_run.specs.Run.{Signature, Pose, Requests, Forms, Reports, Posed, Plan}
 use Rattle.py_run.specs.Coming.{May, IsRunBy, IsDone}
@@ -109,11 +111,17 @@ ReportsThis events (drive.Throw n x a) e = ⊥
 ReportsThis events (drive.Close n) e = ⊥
 ReportsThis events (drive.Report n) e = IsRaisedBy events n e
 
+-- what one has told as a text: that report
+abbrev pub TellsThis : List Event → DriveLine → Told → Type 0
+TellsThis events d (told.Report e) = ReportsThis events d e
+TellsThis events d (told.Part e) = ⊥
+TellsThis events d (told.Exit e) = ⊥
+
 -- what a drive of a script poses: that request or that report, since none has an exception made
 abbrev pub Poses : List Payload → List Event → DriveLine → Pose → Type 0
 Poses objects events d (Requests r) = AsksThis objects events d r
 Poses objects events d (Forms x) = ⊥
-Poses objects events d (Reports e) = ReportsThis events d e
+Poses objects events d (Reports t) = TellsThis events d t
 
 -- the same, made by a host that has entered nothing
 abbrev pub Asks : List Payload → List Event → DriveLine → Posed → Type 0

@@ -48,13 +48,14 @@ module _ (objects : List Payload) (names names' : List (List ℕ)) (places place
   traceback_same [] = refl
   traceback_same (v ∷ vs) = ap (λ l. codes "Traceback (most recent call last):\n" ++ l) (entries_same (v ∷ vs))
 
-  part_same : (v : Obj) (text : List ℕ) → IsPart here v text → IsPart there v text
-  part_same v text (entries, has, is) = (entries, has, is ∙ ap (λ l. l ++ said_at objects v) (traceback_same entries))
+  -- so what is printed of one exception is the same
+  pub part_alike : (v : Obj) (text : List ℕ) → IsPart here v text → IsPart there v text
+  part_alike v text (entries, has, is) = (entries, has, is ∙ ap (λ l. l ++ said_at objects v) (traceback_same entries))
 
   text_same : (cs : List Chained) (text : List ℕ) → IsText here cs text → IsText there cs text
   text_same [] text is = is
-  text_same (c ∷ cs) text (before, piece, first, (part, is_part, is_piece), is) = (before, piece, text_same cs before first, (part, part_same c.exception part is_part, is_piece), is)
+  text_same (c ∷ cs) text (before, piece, first, (part, is_part, is_piece), is) = (before, piece, text_same cs before first, (part, part_alike c.exception part is_part, is_piece), is)
 
-  -- so a report there is one here
+  -- and a report there is one here
   pub report_alike : (v : Obj) (text : List ℕ) → IsReport here v text → IsReport there v text
   report_alike v text (cs, chain, is) = (cs, chain, text_same cs text is)

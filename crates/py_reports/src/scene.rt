@@ -45,7 +45,8 @@ impl<'a> Scene<'a> {
         }
     }
 
-    pub(crate) fn objects(&self) -> &'a [Payload]
+    /// The objects that are read.
+    pub fn objects(&self) -> &'a [Payload]
         ensures { result.now ≡ self.now.objects }
     {
         self.objects

@@ -1,23 +1,28 @@
 -- Reports of a journal as it goes on: among more objects and changes, and behind more events.
-use Rattle.std.proofs.Common.{◌≡◌, ◌≤◌, ◌<◌, ◌+◌, ◌++◌, ◌∙◌, ℕ, zero, suc, List, [], ◌∷◌, Bool, true, false, Some, refl, sym, ap, subst, length, length-append, append_assoc, append-nil, inl, inr, ◌⊎◌, arith}
-use Rattle.std.specs.Prelude.{Option, None, slice_get, filter, nat_le, encode_utf8_all}
+use Rattle.std.proofs.Common.{◌≡◌, ◌≤◌, ◌<◌, ◌+◌, ◌++◌, ◌∙◌, ℕ, suc, List, [], ◌∷◌, Bool, true, false, Some, refl, sym, ap, subst, length, length-append, append-nil, inl, inr, ◌⊎◌, arith}
+use Rattle.std.specs.Prelude.{None, slice_get, filter, nat_le, encode_utf8_all}
 use Rattle.std.proofs.lemmas.Bool.Decides.{nat_tests}
 use Rattle.std.proofs.lemmas.List.Elements.{filter-append}
-use Rattle.py_objects.specs.declared.refs.PyBaseExceptionRef.{PyBaseExceptionRef}
 use Rattle.py_objects.specs.declared.payload.Payload.{Payload}
 use Rattle.py_objects.specs.declared.edit.Change.{Change}
 use Rattle.py_objects.specs.declared.event.DriveAnswer.TheVariants as answer
 use Rattle.py_objects.specs.declared.event.Event.{Event}
 use Rattle.py_objects.specs.declared.event.Event.TheVariants as event
-use Rattle.py_objects.specs.Objects.{Name, as_object}
+use Rattle.py_objects.specs.Objects.{Obj, Name, as_object}
 use Rattle.py_objects.specs.Originals.{ChangesBelow}
 use Rattle.py_objects.specs.Changes.{changed_by, store_at}
+use Rattle.py_reports.specs.Parts.{IsPart}
 use Rattle.py_reports.specs.Reports.{IsReport}
 use Rattle.py_reports.specs.Scenes.{SourceLines}
 pub use Rattle.py_reports.proofs.AlikeLemmas.{SamePlaces}
-use Rattle.py_reports.proofs.AlikeLemmas.{report_alike}
+use Rattle.py_reports.proofs.AlikeLemmas.{part_alike, report_alike}
 use Rattle.py_reports.proofs.ClosedLemmas.{IsClosed, changed_closed, changed_more}
 use Rattle.py_reports.proofs.GrowthLemmas.{report_grown}
+use Rattle.py_run.specs.declared.drive.Told.{Told}
+use Rattle.py_run.specs.declared.drive.Told.TheVariants as told
+use Rattle.py_run.specs.declared.exit.Exit.{Exit}
+use Rattle.py_run.specs.declared.exit.Exit.TheVariants as exit
+use Rattle.py_run.specs.Exits.{exit_of, PrintsAt}
 use Rattle.py_run.specs.Run.{Plan, Posed, State, start, state_after, reporting, to_report_by}
 use Rattle.py_run.specs.Reports.{Origins, scene_among, AreReported, IsReportText}
 use Rattle.py_run.proofs.OwnLemmas.{state_lists}
@@ -28,9 +33,16 @@ abbrev pub AllFrom : ℕ → List Change → Type 0
 AllFrom n [] = Unit {0}
 AllFrom n (c ∷ cs) = (n ≤ c.after) × AllFrom n cs
 
--- what drives have reported is below a number
+-- a whole report of what is below a number
+abbrev pub IsReportBelow : ℕ → Told → Type 0
+IsReportBelow n (told.Report None) = Unit {0}
+IsReportBelow n (told.Report (Some e)) = e.number < n
+IsReportBelow n (told.Part e) = ⊥
+IsReportBelow n (told.Exit e) = ⊥
+
+-- what drives have told are such reports
 abbrev pub ReportBelow : ℕ → List Posed → Type 0
-ReportBelow n asked = (k : ℕ) (e : PyBaseExceptionRef) → to_report_by (slice_get asked k) ≡ Some (Some e) → e.number < n
+ReportBelow n asked = (k : ℕ) (t : Told) → to_report_by (slice_get asked k) ≡ Some t → IsReportBelow n t
 
 -- ---- more objects and changes
 
@@ -63,24 +75,26 @@ module _ (made others : List Payload) (changes more : List Change) (closed : IsC
       ap (changed_by (made ++ others)) (filter-append (λ (c : Change). nat_le c.after k) changes more ∙ ap (λ l. due k ++ l) (none_due n k more low later) ∙ append-nil (due k))
       ∙ changed_more made others (due k) closed (due_below (length made) k changes below)
 
-  text_grown : (origins : Origins) (n k : ℕ) (e : Option PyBaseExceptionRef) (text : Name) → k < n → AllFrom n more → ((x : PyBaseExceptionRef) → e ≡ Some x → x.number < length made)
-      → IsReportText (scene_among origins (store_at made changes k)) e text → IsReportText (scene_among origins (store_at (made ++ others) (changes ++ more) k)) e text
-  text_grown origins n k None text low later there is = is
-  text_grown origins n k (Some x) text low later there is =
+  text_grown : (origins : Origins) (n k : ℕ) (t : Told) (text : Name) → k < n → AllFrom n more → IsReportBelow (length made) t
+      → IsReportText (scene_among origins (store_at made changes k)) t text → IsReportText (scene_among origins (store_at (made ++ others) (changes ++ more) k)) t text
+  text_grown origins n k (told.Part x) text low later there is = absurd there
+  text_grown origins n k (told.Exit x) text low later there is = absurd there
+  text_grown origins n k (told.Report None) text low later there is = is
+  text_grown origins n k (told.Report (Some x)) text low later there is =
       let (stay, many) = changed_closed made (due k) closed (due_below (length made) k changes below) in
       subst (λ (l : List Payload). IsReport (scene_among origins l) (as_object x) (encode_utf8_all text)) (sym (store_grown n k low later))
-      (report_grown (store_at made changes k) others stay origins.names origins.places origins.sources (as_object x) (let within = there x refl in omega (arith, within, many)) (encode_utf8_all text) is)
+      (report_grown (store_at made changes k) others stay origins.names origins.places origins.sources (as_object x) (let within = there in omega (arith, within, many)) (encode_utf8_all text) is)
 
   -- reports stay right
   pub reports_grown : (plan : Plan) (origins : Origins) (before events : List Event) → AllFrom (length (before ++ events)) more → ReportBelow (length made) plan.asked
       → AreReported plan origins made changes before events → AreReported plan origins (made ++ others) (changes ++ more) before events
-  reports_grown plan origins before events later reports are front back d text e is some =
+  reports_grown plan origins before events later reports are front back d text t is some =
       let long : length (before ++ events) ≡ length before + length events = length-append before events in
       let short : length (before ++ front) ≡ length before + length front = length-append before front in
       let parts : length events ≡ length front + length (event.Result d (answer.Reported text) ∷ back) = ap length is ∙ length-append front (event.Result d (answer.Reported text) ∷ back) in
       let last : length (event.Result d (answer.Reported text) ∷ back) ≡ suc (length back) = refl in
-      text_grown origins (length (before ++ events)) (length (before ++ front)) e text (omega (arith, long, short, parts, last)) later
-      (λ x same. reports (state_after start (before ++ front)).done x (some ∙ ap Some same)) (are front back d text e is some)
+      text_grown origins (length (before ++ events)) (length (before ++ front)) t text (omega (arith, long, short, parts, last)) later
+      (reports (state_after start (before ++ front)).done t some) (are front back d text t is some)
 
 -- ---- more drives
 
@@ -99,7 +113,7 @@ reports_asked plan plan' origins made changes events same few are front back d t
 -- ---- more events
 
 -- an event stands in front of where one list goes on as another, or behind that
-split : (es part front back : List Event) (r : Event) → es ++ part ≡ front ++ r ∷ back
+pub split : (es part front back : List Event) (r : Event) → es ++ part ≡ front ++ r ∷ back
     → ((x : List Event) × (es ≡ front ++ r ∷ x)) ⊎ ((x : List Event) × (front ≡ es ++ x) × (part ≡ x ++ r ∷ back))
 split [] part front back r is = inr (front, refl, is)
 split (e ∷ es) part [] back r is = let first : e ≡ r = cc is in inl (es, ap (λ x. x ∷ es) first)
@@ -131,11 +145,24 @@ reports_both plan origins made changes es part first second front back d text e 
 pub reports_alike : (plan plan' : Plan) (origins origins' : Origins) (made : List Payload) (changes : List Change) (events : List Event)
     → ((n : ℕ) → to_report_by (slice_get plan'.asked n) ≡ to_report_by (slice_get plan.asked n)) → origins.sources ≡ origins'.sources
     → SamePlaces origins.names origins.places origins'.names origins'.places → AreReported plan origins made changes [] events → AreReported plan' origins' made changes [] events
-reports_alike plan plan' origins origins' made changes events asked sources places are front back d text e is some =
-    by e (are front back d text e is (sym (asked (state_after start front).done) ∙ some))
+reports_alike plan plan' origins origins' made changes events asked sources places are front back d text t is some =
+    by t (are front back d text t is (sym (asked (state_after start front).done) ∙ some))
   where
-    by : (e : Option PyBaseExceptionRef) → IsReportText (scene_among origins (store_at made changes (length front))) e text → IsReportText (scene_among origins' (store_at made changes (length front))) e text
-    by None is = is
-    by (Some x) is =
-        subst (λ (l : List SourceLines). IsReportText (scene_among (record origins' { sources = l }) (store_at made changes (length front))) (Some x) text) sources
-        (report_alike (store_at made changes (length front)) origins.names origins'.names origins.places origins'.places origins.sources places (as_object x) (encode_utf8_all text) is)
+    whole : (v : Obj) → IsReport (scene_among origins (store_at made changes (length front))) v (encode_utf8_all text) → IsReport (scene_among origins' (store_at made changes (length front))) v (encode_utf8_all text)
+    whole v is =
+        subst (λ (l : List SourceLines). IsReport (scene_among (record origins' { sources = l }) (store_at made changes (length front))) v (encode_utf8_all text)) sources
+        (report_alike (store_at made changes (length front)) origins.names origins'.names origins.places origins'.places origins.sources places v (encode_utf8_all text) is)
+
+    by : (t : Told) → IsReportText (scene_among origins (store_at made changes (length front))) t text → IsReportText (scene_among origins' (store_at made changes (length front))) t text
+    by (told.Report None) is = is
+    by (told.Report (Some x)) is = whole (as_object x) is
+    by (told.Part x) is =
+        subst (λ (l : List SourceLines). IsPart (scene_among (record origins' { sources = l }) (store_at made changes (length front))) (as_object x) (encode_utf8_all text)) sources
+        (part_alike (store_at made changes (length front)) origins.names origins'.names origins.places origins'.places origins.sources places (as_object x) (encode_utf8_all text) is)
+    by (told.Exit x) is = printed (exit_of (store_at made changes (length front)) x) is
+      where
+        printed : (how : Exit) → PrintsAt (scene_among origins (store_at made changes (length front))) x how (encode_utf8_all text) → PrintsAt (scene_among origins' (store_at made changes (length front))) x how (encode_utf8_all text)
+        printed (exit.Silent n) is = is
+        printed (exit.Says v) is = is
+        printed (exit.Shows v) is = is
+        printed (exit.Reports n) is = whole (as_object x) is

@@ -1,17 +1,13 @@
 -- Reports of a run: where there are none, and what adds one.
-use Rattle.std.proofs.Common.{◌≡◌, ◌≤◌, ◌++◌, ◌∙◌, ℕ, suc, List, [], ◌∷◌, Some, refl, sym, ap, subst, length, arith}
-use Rattle.std.specs.Prelude.{Option, None, slice_get}
-use Rattle.py_objects.specs.declared.refs.PyBaseExceptionRef.{PyBaseExceptionRef}
+use Rattle.std.proofs.Common.{◌≡◌, ◌≤◌, ◌++◌, ◌∙◌, ℕ, suc, List, [], ◌∷◌, Some, sym, ap, arith}
+use Rattle.std.specs.Prelude.{None, slice_get}
 use Rattle.py_objects.specs.declared.payload.Payload.{Payload}
 use Rattle.py_objects.specs.declared.edit.Change.{Change}
-use Rattle.py_objects.specs.declared.event.DriveAnswer.{DriveAnswer}
 use Rattle.py_objects.specs.declared.event.DriveAnswer.TheVariants as answer
 use Rattle.py_objects.specs.declared.event.Event.{Event}
 use Rattle.py_objects.specs.declared.event.Event.TheVariants as event
-use Rattle.py_objects.specs.Objects.{Name}
-use Rattle.py_objects.specs.Changes.{store_at}
 use Rattle.py_run.specs.Run.{Plan, State, start, after, state_after, reporting, to_report_by}
-use Rattle.py_run.specs.Reports.{Origins, scene_among, AreReported, IsReportText}
+use Rattle.py_run.specs.Reports.{Origins, AreReported}
 use Rattle.py_run.proofs.OwnLemmas.{state_lists}
 
 -- no event takes a result away

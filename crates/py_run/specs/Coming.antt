@@ -5,7 +5,6 @@ use Rattle.py_objects.specs.declared.payload.Payload.{Payload}
 use Rattle.py_objects.specs.declared.payload.Payload.TheVariants as payload
 use Rattle.py_objects.specs.declared.payload.CoroKind.{CoroKind}
 use Rattle.py_objects.specs.declared.payload.FunctionBody.{FunctionBody}
-use Rattle.py_objects.specs.declared.refs.PyBaseExceptionRef.{PyBaseExceptionRef}
 use Rattle.py_objects.specs.declared.request.Request.{Request}
 use Rattle.py_objects.specs.declared.event.DriveAnswer.{DriveAnswer}
 use Rattle.py_objects.specs.declared.event.DriveAnswer.TheVariants as answer
@@ -19,6 +18,7 @@ use Rattle.py_answers.specs.Answers.{Raised, Reply, Creates, IsRaise, GivesBody,
 use Rattle.py_run.specs.Run.{Signature, Plan, Phase, Idle, Asking, Going, Made, Due, State, Activation, start, after, state_after, IsTop, question, forming, reporting, depth, handled_among, GoesOn}
 use Rattle.py_run.specs.Generators.{Generator, generators_after}
 use Rattle.py_run.specs.declared.drive.Makings.{Makings}
+use Rattle.py_run.specs.declared.drive.Told.{Told}
 use Rattle.py_run.specs.Normalized.{NormalizesTo}
 use Rattle.py_run.specs.Calls.{Course, Says, Enters, Begins, Sends, Throws, Setting, ComesTo, IsDue}
 
@@ -92,10 +92,10 @@ module _ (plan : Plan) (objects : List Payload) where
   abbrev pub IsReplied : Past → DriveAnswer → Type 0
   IsReplied p w = (reply : Reply) × (IsAnswered p reply ⊎ IsFormed p reply) × GivesDrive objects p.events reply w
 
-  -- what the drive has reported comes to a text; which one it is, is said of journals (`HasReports`), since it is read in the store of the event
+  -- what the drive has told comes to a text; which one it is, is said of journals (`AreReported`), since it is read in the store of the event
   abbrev pub IsReported : Past → DriveAnswer → Type 0
   IsReported p w =
-      (p.state.phase ≡ Asking) × ((e : Option PyBaseExceptionRef) × (reporting plan p.state ≡ Some e) × ((text : Name) × (w ≡ answer.Reported text)))
+      (p.state.phase ≡ Asking) × ((t : Told) × (reporting plan p.state ≡ Some t) × ((text : Name) × (w ≡ answer.Reported text)))
 
   -- this event is of the one kind that may come next
   abbrev pub MayCome : Past → Event → Type 0

@@ -5,6 +5,7 @@ use Rattle.py_objects.specs.declared.request.Request.{Request}
 use Rattle.py_objects.specs.declared.request.Request.TheVariants as request
 use Rattle.py_run.specs.declared.drive.Drive.{Drive}
 use Rattle.py_run.specs.declared.drive.Drive.TheVariants as drive
+use Rattle.py_run.specs.declared.drive.Told.TheVariants as told
 use Rattle.py_run.specs.declared.drive.Question.{Question}
 use Rattle.py_run.specs.declared.drive.Question.TheVariants.{Call, Send, Throw, Close}
 use Rattle.py_run.specs.Run.{Pose, Requests, Reports}
@@ -30,4 +31,4 @@ pose_of (drive.Call f vs) = Requests (request_of (Call f vs))
 pose_of (drive.Send g v) = Requests (request_of (Send g v))
 pose_of (drive.Throw g c v) = Requests (request_of (Throw g c v))
 pose_of (drive.Close g) = Requests (request_of (Close g))
-pose_of (drive.Report e) = Reports e
+pose_of (drive.Report e) = Reports (told.Report e)

@@ -6,6 +6,7 @@ pub mod Generators
 -- what answers raise, and which links come of that
 pub mod Raises
 pub mod Links
+pub mod Exits
 pub mod Reports
 -- what questions come to
 pub mod Calls

@@ -2,11 +2,13 @@
 #![tactic(auto)]
 
 mod drive;
+mod exit;
 mod journal;
 mod laws;
 mod worked;
 
-pub use drive::{Drive, Makings, Question};
+pub use drive::{Drive, Makings, Question, Told};
+pub use exit::Exit;
 pub use journal::Journal;
 pub use laws::{laws_of_generators, laws_of_runs};
 pub use worked::{

@@ -20,6 +20,7 @@ use Rattle.py_lines.specs.declared.drive.DriveAtom.TheVariants as atom
 use Rattle.py_lines.specs.declared.drive.DriveLine.{DriveLine}
 use Rattle.py_lines.specs.declared.drive.DriveLine.TheVariants as drive
 use Rattle.py_grammar.specs.Grammar.{Decl, decl_name}
+use Rattle.py_run.specs.declared.drive.Told.TheVariants as told
 use Rattle.py_run.specs.Run.{Pose, Requests, Forms, Reports, Posed}
 use Rattle.py_meaning.specs.Whole.{IsLeft, IsLeftBy, IsOf, IsThrown, AreOf, AsksThis, IsRaisedBy, ReportsThis, Poses, Asks, AreAsked, AreGlobals, AreObjects}
 use Rattle.py_script.specs.Session.{AreBindings}
@@ -92,7 +93,9 @@ module _ (objects objects' : List Payload) (events events' : List Event) (grows 
   poses_grow : (d : DriveLine) (x : Pose) → Poses objects events d x → Poses objects' events' d x
   poses_grow d (Requests r) asks = asks_this_grows d r asks
   poses_grow d (Forms x) asks = asks
-  poses_grow d (Reports e) reports = reports_this_grows d e reports
+  poses_grow d (Reports (told.Report e)) reports = reports_this_grows d e reports
+  poses_grow d (Reports (told.Part e)) reports = reports
+  poses_grow d (Reports (told.Exit e)) reports = reports
 
   -- questions of drives stay so
   pub asked_grow : (ds : List DriveLine) (qs : List Posed) → AreAsked objects events ds qs → AreAsked objects' events' ds qs

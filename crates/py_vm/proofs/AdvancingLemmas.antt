@@ -16,7 +16,7 @@ use Rattle.py_objects.proofs.OriginalsLemmas.{filter-marked}
 use Rattle.py_exceptions.specs.Tracebacks.{traceback_object}
 use Rattle.py_answers.specs.Readable.{ChangeUnread}
 use Rattle.py_stack.specs.Slots.{topmost}
-use Rattle.py_run.specs.declared.drive.Question.{Question as Drive}
+use Rattle.py_run.specs.declared.drive.Question.{Question}
 use Rattle.py_run.specs.Coming.{MayCome}
 use Rattle.py_run.specs.Links.{links_at, is_link, noted, scene_at, ComeOf, HasLinksOf, ObjectEdit, Scene, TellsNow}
 use Rattle.py_run.specs.Run.{start, state_after}
@@ -26,10 +26,11 @@ use Rattle.py_vm.specs.declared.stage.Stage.{Stage}
 use Rattle.py_vm.specs.Advancing.{may_of, Advances, HaltsThere}
 use Rattle.py_vm.specs.Codes.{plain_codes}
 use Rattle.py_vm.specs.Links.{lines_of, rows_under, AreLinksAmong, IsMarked}
-use Rattle.py_vm.specs.Machine.{plan_of, IsAskable as IsCallable}
+use Rattle.py_vm.specs.Machine.{plan_of, IsAskable}
 use Rattle.py_vm.specs.Raising.{CanLink, Linked, LinksOf}
 use Rattle.py_vm.specs.Stands.{Keeps}
-use Rattle.py_vm.specs.Turns.{past_at, Halts, Turned, Turns, IsBusy, IsReady}
+use Rattle.py_vm.specs.Turns.{past_at, Halts, Turned, Turns, IsBusy}
+use Rattle.py_vm.specs.Ready.{IsReady}
 use Rattle.py_vm.proofs.BringingLemmas.{scene_of, turned_brings, Brings, BringsAs, ComesThen}
 use Rattle.py_vm.proofs.LinksLemmas.{all_then, are_links, context_set_if, edits_join, entry_put, none_due, none_then, noted_below, noted_marked, noted_unread, put_if, AreLinkEdits, GetsContextBy, GetsEntryBy}
 use Rattle.py_vm.proofs.StandsLemmas.{marked_append}
@@ -42,7 +43,7 @@ abbrev with_changes : Core → List Change → (mark spare : ℕ) → Option Rai
 with_changes m changes mark spare raising =
     record m { world = record m.world { store = record { made = m.world.store.made; changes = changes; mark = mark; spare = spare } }; raising = raising }
 
-keeps_changes : (m : Core) (d : Drive) (s : Stage) (changes : List Change) (mark spare : ℕ) (raising : Option Raising) → ChangeUnread m.world.store.made changes
+keeps_changes : (m : Core) (d : Question) (s : Stage) (changes : List Change) (mark spare : ℕ) (raising : Option Raising) → ChangeUnread m.world.store.made changes
     → IsMarked (length m.events) (record { made = m.world.store.made; changes = changes; mark = mark; spare = spare }) → Keeps m d s → Keeps (with_changes m changes mark spare raising) d s
 keeps_changes m d s changes mark spare raising unread marked k = record {
   follows = record { done = k.follows.done; phase = k.follows.phase; stack = k.follows.stack; made = k.follows.made };
@@ -56,7 +57,7 @@ keeps_changes m d s changes mark spare raising unread marked k = record {
 }
 
 -- the invariant goes over to it
-keeps_store : (m : Core) (d : Drive) (s : Stage) (store : Kept) (raising : Option Raising) → store.made ≡ m.world.store.made → ChangeUnread m.world.store.made store.changes
+keeps_store : (m : Core) (d : Question) (s : Stage) (store : Kept) (raising : Option Raising) → store.made ≡ m.world.store.made → ChangeUnread m.world.store.made store.changes
     → IsMarked (length m.events) (record { made = m.world.store.made; changes = store.changes; mark = store.mark; spare = store.spare }) → Keeps m d s
     → Keeps (record m { world = record m.world { store = store }; raising = raising }) d s
 keeps_store m d s store raising same unread marked k =
@@ -68,7 +69,7 @@ keeps_store m d s store raising same unread marked k =
 abbrev pub cleared : Core → Kept → Core
 cleared m store = record m { world = record m.world { store = store }; raising = None }
 
-keeps_cleared : (m : Core) (d : Drive) (store : Kept) → IsAsBefore m.world.store store → Keeps m d m.stage → Keeps (cleared m store) d m.stage
+keeps_cleared : (m : Core) (d : Question) (store : Kept) → IsAsBefore m.world.store store → Keeps m d m.stage → Keeps (cleared m store) d m.stage
 keeps_cleared m d store same k =
     keeps_store m d m.stage store None same.made (subst (ChangeUnread m.world.store.made) (sym same.changes) k.stored.readable.unread) (record {
       mark = subst (λ n. n ≤ length m.events) (sym same.mark) k.marked.mark;
@@ -76,11 +77,11 @@ keeps_cleared m d store same k =
       below = subst (ChangesBelow (length m.world.store.made)) (sym same.changes) k.marked.below;
     }) k
 
-callable_still : (m : Core) (d : Drive) (store : Kept) → IsAsBefore m.world.store store → IsCallable m.world.store.made d → IsCallable store.made d
-callable_still m d store same callable = subst (λ (l : List Payload). IsCallable l d) (sym same.made) callable
+callable_still : (m : Core) (d : Question) (store : Kept) → IsAsBefore m.world.store store → IsAskable m.world.store.made d → IsAskable store.made d
+callable_still m d store same callable = subst (λ (l : List Payload). IsAskable l d) (sym same.made) callable
 
 -- it is ready for its turn
-pub cleared_ready : (m : Core) (d : Drive) (store : Kept) → IsAsBefore m.world.store store → Keeps m d m.stage → IsBusy m.stage → IsCallable m.world.store.made d → IsReady (cleared m store) d m.stage
+pub cleared_ready : (m : Core) (d : Question) (store : Kept) → IsAsBefore m.world.store store → Keeps m d m.stage → IsBusy m.stage → IsAskable m.world.store.made d → IsReady (cleared m store) d m.stage
 cleared_ready m d store same k busy callable = ready_law (cleared m store) d m.stage (keeps_cleared m d store same k) busy (callable_still m d store same callable)
 
 -- where memory runs out, nothing was added but objects
@@ -102,7 +103,7 @@ halts_there m store m' same halts = record {
 
 -- ---- a turn was made
 
-module _ (m : Core) (d : Drive) (store : Kept) (a : Option DriveAnswer) (n : Core) (k : Keeps m d m.stage) (callable : IsCallable m.world.store.made d) (same : IsAsBefore m.world.store store) (turned : Turned (cleared m store) d m.stage a n) where
+module _ (m : Core) (d : Question) (store : Kept) (a : Option DriveAnswer) (n : Core) (k : Keeps m d m.stage) (callable : IsAskable m.world.store.made d) (same : IsAsBefore m.world.store store) (turned : Turned (cleared m store) d m.stage a n) where
   turns : Turns (cleared m store) d m.stage a n
   turns = turned_law (cleared m store) d m.stage a n (keeps_cleared m d store same k) (callable_still m d store same callable) turned
 

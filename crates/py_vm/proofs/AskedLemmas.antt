@@ -27,7 +27,7 @@ use Rattle.py_frame.specs.declared.input.Answer.{Answer}
 use Rattle.py_frame.specs.Frames.{handed}
 use Rattle.py_frame.specs.Steps.{Expects, got_of, taken}
 use Rattle.py_answers.specs.Answers.{Reply, GivesBody, GivesDrive}
-use Rattle.py_run.specs.declared.drive.Question.{Question as Drive}
+use Rattle.py_run.specs.declared.drive.Question.{Question}
 use Rattle.py_run.specs.Run.{Posed, start, state_after, top_asks, question}
 use Rattle.py_run.specs.Raises.{raised_by}
 use Rattle.py_run.specs.Generators.{answered, returned_by, value_of}
@@ -56,7 +56,7 @@ use Rattle.py_vm.proofs.QuestionsLemmas.{Answers}
 use Rattle.py_vm.proofs.GoingLemmas.{goes}
 
 -- an activation that waits inside of these, where a machine is so far
-pub record Waiting (m : Core) (d : Drive) (h : Halted) (hs : List Halted) : Type 0 where
+pub record Waiting (m : Core) (d : Question) (h : Halted) (hs : List Halted) : Type 0 where
   pub halted : IsHalted m.world.codes m.globals m.world.store.made m.events h (first_slot h.running.kind hs)
   pub apart : AreApart hs
   pub others : IsApart h.running.act hs
@@ -73,7 +73,7 @@ pub record Alone (m : Core) : Type 0 where
   pub slots : m.slots ≡ slots_in []
 
 -- the innermost of these asks, or the drive
-abbrev pub AskedBy : Core → Drive → List Halted → Type 0
+abbrev pub AskedBy : Core → Question → List Halted → Type 0
 AskedBy m d [] = Alone m
 AskedBy m d (h ∷ hs) = Waiting m d h hs
 
@@ -88,7 +88,7 @@ top_stacked None slot outer = refl
 top_stacked (Some kind) slot outer = refl
 
 -- the question that is answered, by a value that this may be
-abbrev pub IsFold : Core → Drive → (Option Obj → Type 0) → List KeptGenerator → Type 0
+abbrev pub IsFold : Core → Question → (Option Obj → Type 0) → List KeptGenerator → Type 0
 IsFold m d May list =
     (asked : List Posed) (v : Option Obj) → IsNext m d asked → May v
     → answered (question (plan_of m.world.codes asked) (state_after start m.events)) (state_after start m.events).phase (length (state_after start m.events).made) v (modes_of m.world.generators) ≡ modes_of list
@@ -102,7 +102,7 @@ raised_exception objects q (got.Stop v) is = tt
 raised_exception objects q (got.Raise e) is = is
 
 -- it gets the answer to what it asked, which is as it is wanted and names objects
-pub got_law : (m : Core) (d : Drive) (s : Stage) (h : Halted) (hs : List Halted) (store : Kept) (list : List KeptGenerator) (raising : Option Raising) (w : Answer) (Other : ℕ → Type 0) → Keeps m d s → IsGrown m.world.store store → (waits : Waiting m d h hs)
+pub got_law : (m : Core) (d : Question) (s : Stage) (h : Halted) (hs : List Halted) (store : Kept) (list : List KeptGenerator) (raising : Option Raising) (w : Answer) (Other : ℕ → Type 0) → Keeps m d s → IsGrown m.world.store store → (waits : Waiting m d h hs)
     → IsAnswer store.made (wanted waits.halted.question.request) (got_of w) → AllBelow (length store.made) (got_numbers (got_of w))
     → ((asked : List Posed) → IsNext m d asked → (reply : Reply) × IsAnswered (plan_of m.world.codes asked) store.made (past_at m) reply × GivesBody store.made m.events reply (got_of w))
     → IsChange m Other store (event.Got h.running.act (got_of w)) list → AreOthers Other hs → Other h.running.act → IsFold m d (λ v. v ≡ value_of (got_of w)) list
@@ -151,7 +151,7 @@ got_law m d s h hs store list raising w Other k grown waits as_wanted below repl
     }) (refl, tt) (λ asked is. (top_is m r (Some q.request) q.own q.at (caller_acts m.events hs) stack, replied asked is))
 
 -- the drive has its result, where what it asked is answered and no activation runs
-pub result_law : (m : Core) (d : Drive) (s : Stage) (store : Kept) (list : List KeptGenerator) (w : MadeReply) (Other : ℕ → Type 0) → Keeps m d s → m.callers ≡ [] → Alone m → IsGrown m.world.store store
+pub result_law : (m : Core) (d : Question) (s : Stage) (store : Kept) (list : List KeptGenerator) (w : MadeReply) (Other : ℕ → Type 0) → Keeps m d s → m.callers ≡ [] → Alone m → IsGrown m.world.store store
     → AllBelow (length store.made) (result_numbers (result_of w))
     → ((asked : List Posed) → IsNext m d asked → (reply : Reply) × IsAnswered (plan_of m.world.codes asked) store.made (past_at m) reply × GivesDrive store.made m.events reply (result_of w))
     → IsChange m Other store (event.Result (m.done + 1) (result_of w)) list → IsFold m d (λ v. v ≡ returned_by (result_of w)) list
@@ -222,12 +222,12 @@ result_may (made.Stops u) = tt
 result_may made.Closes = tt
 
 -- an answer by a reply is as who asked wants it
-abbrev pub FitsWho : (m : Core) (d : Drive) → Kept → Reply → (hs : List Halted) → AskedBy m d hs → Type 0
+abbrev pub FitsWho : (m : Core) (d : Question) → Kept → Reply → (hs : List Halted) → AskedBy m d hs → Type 0
 FitsWho m d store reply [] alone = Unit {0}
 FitsWho m d store reply (h ∷ hs) waits = (store' : Kept) (a : Answer) → IsGrown store store' → GivesReply m.world.store.made store'.made reply a → IsAnswer store'.made (wanted waits.halted.question.request) (got_of a)
 
 -- who asked gets the reply
-pub replies_law : (m : Core) (d : Drive) (s : Stage) (hs : List Halted) (store : Kept) (list : List KeptGenerator) (reply : Reply) (w : MadeReply) (a : Option DriveAnswer) (m' : Core) (Other : ℕ → Type 0) → Keeps m d s
+pub replies_law : (m : Core) (d : Question) (s : Stage) (hs : List Halted) (store : Kept) (list : List KeptGenerator) (reply : Reply) (w : MadeReply) (a : Option DriveAnswer) (m' : Core) (Other : ℕ → Type 0) → Keeps m d s
     → IsGrown m.world.store store → (asked_by : AskedBy m d hs) → FitsWho m d store reply hs asked_by → ((objects : List Payload) → GrowsPlainly store.made objects → Answers m d objects reply) → IsReplied m.world.store.made store.made reply w
     → ((store' : Kept) (e : Event) → IsGrown m.world.store store' → who hs ≡ whose e → GrowsPlainly store.made store'.made → IsChange m Other store' e list) → AreOthers Other hs → IsFold m d (MayBe w) list → (hs ≡ [] → m.callers ≡ [])
     → Replies (record m { world = record m.world { store = store; generators = list }; callers = hs }) w hs a m' → Turns m d s a m'

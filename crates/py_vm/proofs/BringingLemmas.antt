@@ -33,7 +33,7 @@ use Rattle.py_coro.specs.declared.coro.CoroEnd.{CoroEnd}
 use Rattle.py_coro.specs.declared.coro.CoroEnd.TheVariants as left
 use Rattle.py_coro.specs.Refusals.{word_of}
 use Rattle.py_answers.specs.Answers.{Reply}
-use Rattle.py_run.specs.declared.drive.Question.{Question as Drive}
+use Rattle.py_run.specs.declared.drive.Question.{Question}
 use Rattle.py_run.specs.Drives.{request_of}
 use Rattle.py_run.specs.Calls.{reply_by}
 use Rattle.py_run.specs.Links.{AsksNow, ComeOf, ComeOfAnswer, ComeOfTop, GetsContext, GivesContext, ObjectEdit, PutsEntry, Raises, RaisesIf, Scene, TellsNow, is_fresh, named_by}
@@ -120,23 +120,23 @@ passes_named events (made.Stops v) a (e, is) named = subst (PassesNamed events) 
 passes_named events made.Closes a (v, is) named = subst (PassesNamed events) (sym is) tt
 
 -- what is handled where the innermost of these asked, or the drive
-asked_handles : (m : Core) (d : Drive) (hs : List Halted) → AskedBy m d hs → handled_among (state_after start m.events).stack ≡ topmost m.slots
+asked_handles : (m : Core) (d : Question) (hs : List Halted) → AskedBy m d hs → handled_among (state_after start m.events).stack ≡ topmost m.slots
 asked_handles m d [] alone = ap handled_among alone.stack ∙ sym (ap topmost alone.slots)
 asked_handles m d (h ∷ hs) waits =
     let around : AreHalted m hs = inside_halted m m.world.generators d h.running.kind h.running.act hs waits.inside in
     ap handled_among waits.stack ∙ halted_handles m h hs (caller_acts m.events hs) waits.halted (callers_handle m hs around) ∙ sym (ap topmost waits.slots)
 
-slots_of : (m : Core) (d : Drive) (hs : List Halted) → AskedBy m d hs → m.slots ≡ slots_in hs
+slots_of : (m : Core) (d : Question) (hs : List Halted) → AskedBy m d hs → m.slots ≡ slots_in hs
 slots_of m d [] alone = alone.slots
 slots_of m d (h ∷ hs) waits = waits.slots
 
 -- which is an exception
-asked_there : (m : Core) (d : Drive) (hs : List Halted) → AskedBy m d hs → RaisedThere m.world.store.made (topmost m.slots)
+asked_there : (m : Core) (d : Question) (hs : List Halted) → AskedBy m d hs → RaisedThere m.world.store.made (topmost m.slots)
 asked_there m d hs asked =
     subst (λ (l : Slots). RaisedThere m.world.store.made (topmost l)) (sym (slots_of m d hs asked)) (topmost_holds m (RaisedThere m.world.store.made) (slots_in hs) tt (slots_there m hs (asked_halted m d hs asked)))
 
 -- the activation that waits gets it
-module _ (m : Core) (d : Drive) (s : Stage) (h : Halted) (hs : List Halted) (mid store : Kept) (m' : Core) (k : Keeps m d s) (waits : Waiting m d h hs) (grown : IsGrown m.world.store mid) (more : IsGrown mid store) (same : m'.world.store ≡ store)
+module _ (m : Core) (d : Question) (s : Stage) (h : Halted) (hs : List Halted) (mid store : Kept) (m' : Core) (k : Keeps m d s) (waits : Waiting m d h hs) (grown : IsGrown m.world.store mid) (more : IsGrown mid store) (same : m'.world.store ≡ store)
     (slots : m'.slots ≡ m.slots) (codes : m'.world.codes ≡ m.world.codes) where
   abbrev asked : Request
   asked = waits.halted.question.request
@@ -230,7 +230,7 @@ NamedFor events w [] = Unit {0}
 NamedFor events w (h ∷ hs) = IsPassedBy (named_by events) w
 
 -- the innermost of these gets the reply, or the drive
-replies_brings : (m : Core) (d : Drive) (s : Stage) (hs : List Halted) (store : Kept) (list : List KeptGenerator) (reply : Reply) (w : MadeReply) (a : Option DriveAnswer) (m' : Core) → Keeps m d s → m.raising ≡ None
+replies_brings : (m : Core) (d : Question) (s : Stage) (hs : List Halted) (store : Kept) (list : List KeptGenerator) (reply : Reply) (w : MadeReply) (a : Option DriveAnswer) (m' : Core) → Keeps m d s → m.raising ≡ None
     → IsGrown m.world.store store → (asked_by : AskedBy m d hs) → FitsWho m d store reply hs asked_by → IsReplied m.world.store.made store.made reply w → NamedFor m.events w hs
     → Replies (record m { world = record m.world { store = store; generators = list }; callers = hs }) w hs a m' → Brings m m'
 replies_brings m d s [] store list reply w a m' k none grown alone fits replied named (is_answer, is) =
@@ -259,7 +259,7 @@ slot_or : (objects : List Payload) (slot outer : Option PyBaseExceptionRef) → 
 slot_or objects None outer mine around = around
 slot_or objects (Some e) outer mine around = mine
 
-module _ (m : Core) (d : Drive) (s : Stage) (hs : List Halted) (q : Request) (store : Kept) (list : List KeptGenerator) (x : Suspended) (k : Keeps m d s) (asked_by : AskedBy m d hs) where
+module _ (m : Core) (d : Question) (s : Stage) (hs : List Halted) (q : Request) (store : Kept) (list : List KeptGenerator) (x : Suspended) (k : Keeps m d s) (asked_by : AskedBy m d hs) where
   resumed_brings : (h : ResumeHow) → IsEntering m q store list x h → (m' : Core) → m' ≡ resumed_by (record m { world = record m.world { store = store; generators = list }; callers = hs }) x h → Brings m m'
   resumed_brings how.Start entering m' is = plain m m' (event.Resume x.running.act how.Start) (ap (λ (y : Core). y.events) is) (ap (λ (y : Core). y.raising) is) tt refl
   resumed_brings (how.Send v) entering m' is = plain m m' (event.Resume x.running.act (how.Send v)) (ap (λ (y : Core). y.events) is) (ap (λ (y : Core). y.raising) is) tt refl
@@ -293,7 +293,7 @@ module _ (m : Core) (d : Drive) (s : Stage) (hs : List Halted) (q : Request) (st
 -- ---- an open question comes on
 
 -- what answers a question at once passes what the question names
-said_named : (m : Core) (d : Drive) (hs : List Halted) (asked_by : AskedBy m d hs) (q : Request) (w : MadeReply) → IsTheirs m d hs asked_by q → IsPassedBy (request_numbers q) w → NamedFor m.events w hs
+said_named : (m : Core) (d : Question) (hs : List Halted) (asked_by : AskedBy m d hs) (q : Request) (w : MadeReply) → IsTheirs m d hs asked_by q → IsPassedBy (request_numbers q) w → NamedFor m.events w hs
 said_named m d [] alone q w theirs named = tt
 said_named m d (h ∷ hs) waits q (made.Value v) theirs named = tt
 said_named m d (h ∷ hs) waits q (made.Fresh e) theirs named = tt
@@ -304,7 +304,7 @@ said_named m d (h ∷ hs) waits q (made.Yields v) theirs named = tt
 said_named m d (h ∷ hs) waits q (made.Stops v) theirs named = tt
 said_named m d (h ∷ hs) waits q made.Closes theirs named = tt
 
-comes_brings : (m : Core) (d : Drive) (s : Stage) (hs : List Halted) (q : Request) (a : Option DriveAnswer) (m' : Core) → Keeps m d s → m.raising ≡ None → (asked_by : AskedBy m d hs) → IsTheirs m d hs asked_by q → Comes_on m q hs a m' → Brings m m'
+comes_brings : (m : Core) (d : Question) (s : Stage) (hs : List Halted) (q : Request) (a : Option DriveAnswer) (m' : Core) → Keeps m d s → m.raising ≡ None → (asked_by : AskedBy m d hs) → IsTheirs m d hs asked_by q → Comes_on m q hs a m' → Brings m m'
 comes_brings m d s hs q a m' k none asked_by theirs (inl (store, list, w, said, replies)) =
     replies_brings m d s hs store list said.reply w a m' k none said.grown asked_by (said_fits m d s store said.reply hs asked_by q k theirs said.grown said.says) said.replied (said_named m d hs asked_by q w theirs said.passed) replies
 comes_brings m d s hs q a m' k none asked_by theirs (inr (inl (f, vs, no_answer, enters, (b, has, c, is_code, r, unbegun, is)))) =
@@ -314,7 +314,7 @@ comes_brings m d s hs q a m' k none asked_by theirs (inr (inr (store, list, x, h
 -- ---- each stage
 
 -- an activation that was made is entered, or becomes a generator
-started_brings : (m : Core) (d : Drive) (r : Running) (f : Obj) (a : Option DriveAnswer) (m' : Core) (kind : Option CoroKind) → r.kind ≡ kind → Keeps m d (stage.Made r f) → m.raising ≡ None
+started_brings : (m : Core) (d : Question) (r : Running) (f : Obj) (a : Option DriveAnswer) (m' : Core) (kind : Option CoroKind) → r.kind ≡ kind → Keeps m d (stage.Made r f) → m.raising ≡ None
     → Started m r f kind a m' → Brings m m'
 started_brings m d r f a m' None kind_is k none (no_answer, is) = plain m m' (event.Resume r.act how.Start) (ap (λ (x : Core). x.events) is) (ap (λ (x : Core). x.raising) is ∙ none) tt refl
 started_brings m d r f a m' (Some kind) kind_is k none (x, store, new, replies) =
@@ -369,7 +369,7 @@ call_passes (left.Yield v) = tt
 call_passes (left.Return v) = tt
 call_passes (left.Raise e) = ap (λ b. b || false) (eq-eqb e.number e.number refl)
 
-module _ (m : Core) (d : Drive) (s : Suspended) (how : CoroEnd) (k : Keeps m d (stage.Due s how)) (none : m.raising ≡ None) where
+module _ (m : Core) (d : Question) (s : Suspended) (how : CoroEnd) (k : Keeps m d (stage.Due s how)) (none : m.raising ≡ None) where
   abbrev asks : Asker m d m.callers s.running.kind s.running.act
   asks = asker m d s.running.kind s.running.act m.callers k.follows.stack k.nested.frames k.nested.slots k.nested.apart k.at_stage.2.inside
 
@@ -392,7 +392,7 @@ module _ (m : Core) (d : Drive) (s : Suspended) (how : CoroEnd) (k : Keeps m d (
       settled_brings (generator_asked asks.q) refl store list w (subst (λ r. IsSettled m s how (generator_asked r) store list w) (asks.is q questioned) settled) s.running.kind refl asks.entered a m' replies
 
 -- each turn does
-pub turned_brings : (m : Core) (d : Drive) (s : Stage) (a : Option DriveAnswer) (m' : Core) → Keeps m d s → m.raising ≡ None → Turned m d s a m' → Brings m m'
+pub turned_brings : (m : Core) (d : Question) (s : Stage) (a : Option DriveAnswer) (m' : Core) → Keeps m d s → m.raising ≡ None → Turned m d s a m' → Brings m m'
 turned_brings m d stage.Idle a m' k none turned = absurd turned
 turned_brings m d stage.Begins a m' k none (no_answer, is) = plain m m' (event.Drive (m.done + 1)) (ap (λ (x : Core). x.events) is) (ap (λ (x : Core). x.raising) is ∙ none) tt refl
 turned_brings m d stage.Asking a m' k none comes =

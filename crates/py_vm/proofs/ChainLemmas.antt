@@ -23,7 +23,7 @@ use Rattle.py_rows.specs.Laws.{RaisedThere}
 use Rattle.py_rows.proofs.GrowingLemmas.{kind_grown}
 use Rattle.py_rows.proofs.HandledLemmas.{handled_outside, handled_there}
 use Rattle.py_rows.proofs.RunLemmas.{runs_keep_slot}
-use Rattle.py_run.specs.declared.drive.Question.{Question as Drive}
+use Rattle.py_run.specs.declared.drive.Question.{Question}
 use Rattle.py_run.specs.Drives.{request_of}
 use Rattle.py_run.specs.Run.{Act, start, state_after, handled_among}
 use Rattle.py_vm.specs.declared.stage.Running.{Running}
@@ -83,7 +83,7 @@ module _ (m : Core) where
   AreHalted (h ∷ hs) = Waits h (first_slot h.running.kind hs) × AreHalted hs
 
   -- they do where one was entered inside of them
-  pub inside_halted : (list : List KeptGenerator) (d : Drive) (k : Option CoroKind) (a : ℕ) (hs : List Halted) → IsInside m.world.codes m.globals m.world.store.made m.events list d k a hs → AreHalted hs
+  pub inside_halted : (list : List KeptGenerator) (d : Question) (k : Option CoroKind) (a : ℕ) (hs : List Halted) → IsInside m.world.codes m.globals m.world.store.made m.events list d k a hs → AreHalted hs
   inside_halted list d k a [] inside = tt
   inside_halted list d k a (h ∷ hs) inside = (inside.0, inside_halted list d h.running.kind h.running.act hs inside.3)
 
@@ -105,7 +105,7 @@ module _ (m : Core) where
     halted_still h slot other x =
         record { plays = plays_still m.world.codes m.globals m.world.store.made objects m.events e grows h.running slot other x.plays; question = question_still h.place x.question; waits = x.waits; handles = x.handles; told_at = x.told_at }
 
-    module _ (Other : ℕ → Type 0) (list list' : List KeptGenerator) (carried : IsCarried Other list list') (d : Drive) where
+    module _ (Other : ℕ → Type 0) (list list' : List KeptGenerator) (carried : IsCarried Other list list') (d : Question) where
       -- so does one that was entered inside of those, as an event of none of them comes
       pub inside_on : (k : Option CoroKind) (a : ℕ) (hs : List Halted) → IsApart (whose e) hs → AreOthers Other hs → Other a → IsInside m.world.codes m.globals m.world.store.made m.events list d k a hs
           → IsInside m.world.codes m.globals objects (m.events ++ e ∷ []) list' d k a hs

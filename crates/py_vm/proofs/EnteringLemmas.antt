@@ -34,7 +34,7 @@ use Rattle.py_rows.specs.Signature.{kind_by}
 use Rattle.py_frame.specs.declared.input.Input.TheVariants as input
 use Rattle.py_frame.specs.Frames.{handed}
 use Rattle.py_frame.specs.Steps.{Expects, heard, taken}
-use Rattle.py_run.specs.declared.drive.Question.{Question as Drive}
+use Rattle.py_run.specs.declared.drive.Question.{Question}
 use Rattle.py_run.specs.Drives.{request_of}
 use Rattle.py_run.specs.Run.{Made, Posed, start, state_after}
 use Rattle.py_run.specs.Generators.{running_at}
@@ -75,7 +75,7 @@ module _ (m : Core) (r : Running) (f : IsFresh m.world.codes m.globals m.world.s
       subst (λ (t : FrameState). Runs m.world.store.made setting begun f.plays.told (handed slot t)) (sym f.begins) (subst (λ (ts : List Own). Runs m.world.store.made setting begun ts begun) (sym f.unheard) still)
 
 -- the activation of a function that was made is entered, and its frame hears so, with what is in the slot
-pub entered_law : (m : Core) (d : Drive) (r : Running) (f : Obj) → r.kind ≡ None → Keeps m d (stage.Made r f) → Turns m d (stage.Made r f) None (entered_by m r)
+pub entered_law : (m : Core) (d : Question) (r : Running) (f : Obj) → r.kind ≡ None → Keeps m d (stage.Made r f) → Turns m d (stage.Made r f) None (entered_by m r)
 entered_law m d r f plain k =
     let e : Event = event.Resume r.act how.Start in
     let objects : List Payload = m.world.store.made in
@@ -250,18 +250,18 @@ enters_ready m q store x s (how.Throw e) keeps waits (raise, comes, thrown, take
     still Closed takes = tt
 
 -- those that wait aren't what waits to be entered
-chain_apart : (m : Core) (d : Drive) (k : Option CoroKind) (a : ℕ) (hs : List Halted) (g : Obj) (x : KeptGenerator) (s : Suspended) → kept_at m.world.generators g ≡ Some x → x.suspended ≡ Some s
+chain_apart : (m : Core) (d : Question) (k : Option CoroKind) (a : ℕ) (hs : List Halted) (g : Obj) (x : KeptGenerator) (s : Suspended) → kept_at m.world.generators g ≡ Some x → x.suspended ≡ Some s
     → IsInside m.world.codes m.globals m.world.store.made m.events m.world.generators d k a hs → IsApart x.act hs
 chain_apart m d k a [] g x s here waits inside = tt
 chain_apart m d k a (h ∷ hs) g x s here waits inside =
     (other_way x.act h.running.act (outside_at h.running.act m.world.generators g x s here waits inside.2), chain_apart m d h.running.kind h.running.act hs g x s here waits inside.3)
 
-asked_apart : (m : Core) (d : Drive) (hs : List Halted) (g : Obj) (x : KeptGenerator) (s : Suspended) → kept_at m.world.generators g ≡ Some x → x.suspended ≡ Some s → AskedBy m d hs → IsApart x.act hs
+asked_apart : (m : Core) (d : Question) (hs : List Halted) (g : Obj) (x : KeptGenerator) (s : Suspended) → kept_at m.world.generators g ≡ Some x → x.suspended ≡ Some s → AskedBy m d hs → IsApart x.act hs
 asked_apart m d [] g x s here waits alone = tt
 asked_apart m d (h ∷ hs) g x s here waits asked =
     (other_way x.act h.running.act (outside_at h.running.act m.world.generators g x s here waits asked.outside), chain_apart m d h.running.kind h.running.act hs g x s here waits asked.inside)
 
-pub asked_halted : (m : Core) (d : Drive) (hs : List Halted) → AskedBy m d hs → AreHalted m hs
+pub asked_halted : (m : Core) (d : Question) (hs : List Halted) → AskedBy m d hs → AreHalted m hs
 asked_halted m d [] alone = tt
 asked_halted m d (h ∷ hs) asked = (asked.halted, inside_halted m m.world.generators d h.running.kind h.running.act hs asked.inside)
 
@@ -275,7 +275,7 @@ no_first None kind hs is = absurd (cc is)
 no_first (Some other) kind hs is = refl
 
 -- the generator that an open question enters
-pub resumed_law : (m : Core) (d : Drive) (s : Stage) (hs : List Halted) (q : Request) (store : Kept) (list : List KeptGenerator) (x : Suspended) (h : ResumeHow) → Keeps m d s → IsOpen m d q → (asked_by : AskedBy m d hs)
+pub resumed_law : (m : Core) (d : Question) (s : Stage) (hs : List Halted) (q : Request) (store : Kept) (list : List KeptGenerator) (x : Suspended) (h : ResumeHow) → Keeps m d s → IsOpen m d q → (asked_by : AskedBy m d hs)
     → IsTheirs m d hs asked_by q → IsEntering m q store list x h → Turns m d s None (resumed_by (record m { world = record m.world { store = store; generators = list }; callers = hs }) x h)
 resumed_law m d s hs q store list x h k opened asked_by theirs entering =
     let g : Obj = entering.object in

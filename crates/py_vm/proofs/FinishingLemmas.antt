@@ -36,7 +36,7 @@ use Rattle.py_objects.specs.Positional.{is_bare}
 use Rattle.py_frame.specs.declared.input.Answer.{Answer}
 use Rattle.py_frame.specs.declared.input.Answer.TheVariants as given
 use Rattle.py_frame.specs.Steps.{got_of}
-use Rattle.py_run.specs.declared.drive.Question.{Question as Drive}
+use Rattle.py_run.specs.declared.drive.Question.{Question}
 use Rattle.py_run.specs.declared.drive.Question.TheVariants.{Call, Send, Throw, Close}
 use Rattle.py_run.specs.Calls.{IsDue, LeavesCalled, LeavesGenerator, reply_by}
 use Rattle.py_run.specs.Drives.{request_of}
@@ -75,13 +75,13 @@ any_answer objects (given.Fresh e) heard raises = raises
 any_answer objects (given.Passed e) heard raises = raises
 
 -- the question of who asks in a run
-pub their_question : (m : Core) (d : Drive) (hs : List Halted) (asked_by : AskedBy m d hs) (q : Request) (asked : List Posed) → IsTheirs m d hs asked_by q → (state_after start m.events).done ≡ m.done → IsNext m d asked
+pub their_question : (m : Core) (d : Question) (hs : List Halted) (asked_by : AskedBy m d hs) (q : Request) (asked : List Posed) → IsTheirs m d hs asked_by q → (state_after start m.events).done ≡ m.done → IsNext m d asked
     → question (plan_of m.world.codes asked) (state_after start m.events) ≡ Some q
 their_question m d [] alone q asked theirs done is = drive_asks m d asked done alone.stack is ∙ ap Some theirs
 their_question m d (h ∷ hs) waits q asked theirs done is = body_asks m h (caller_acts m.events hs) asked (first_slot h.running.kind hs, waits.halted) waits.stack ∙ ap Some theirs
 
 -- those that asked, and by what they entered an activation of this kind and number
-pub record Asker (m : Core) (d : Drive) (hs : List Halted) (kind : Option CoroKind) (a : ℕ) : Type 0 where
+pub record Asker (m : Core) (d : Question) (hs : List Halted) (kind : Option CoroKind) (a : ℕ) : Type 0 where
   pub asked_by : AskedBy m d hs
   pub q : Request
   pub theirs : IsTheirs m d hs asked_by q
@@ -90,14 +90,14 @@ pub record Asker (m : Core) (d : Drive) (hs : List Halted) (kind : Option CoroKi
   pub is : (r : Request) → Questioned m.events d hs r → r ≡ q
 
 -- what drives ask is answered
-drive_answered : (d : Drive) → is_answered (request_of d) ≡ true
+drive_answered : (d : Question) → is_answered (request_of d) ≡ true
 drive_answered (Call f vs) = refl
 drive_answered (Send g v) = refl
 drive_answered (Throw g c v) = refl
 drive_answered (Close g) = refl
 
 -- they are there while no activation goes on
-pub asker : (m : Core) (d : Drive) (kind : Option CoroKind) (a : ℕ) (hs : List Halted) → (state_after start m.events).stack ≡ caller_acts m.events hs → m.frames ≡ caller_frames hs → m.slots ≡ slots_in hs → AreApart hs
+pub asker : (m : Core) (d : Question) (kind : Option CoroKind) (a : ℕ) (hs : List Halted) → (state_after start m.events).stack ≡ caller_acts m.events hs → m.frames ≡ caller_frames hs → m.slots ≡ slots_in hs → AreApart hs
     → IsInside m.world.codes m.globals m.world.store.made m.events m.world.generators d kind a hs → Asker m d hs kind a
 asker m d kind a [] stack frames slots apart inside = record {
   asked_by = record { stack = stack; frames = frames; slots = slots };
@@ -120,7 +120,7 @@ asker m d kind a (h ∷ hs) stack frames slots apart inside = record {
     one_question r q same = cc same
 
 -- what is answered to a question of which anything is wanted is so
-pub any_fits : (m : Core) (d : Drive) (store : Kept) (reply : Reply) (hs : List Halted) (asked_by : AskedBy m d hs) (q : Request) → IsTheirs m d hs asked_by q → wanted q ≡ want.Of kind.Any → FitsWho m d store reply hs asked_by
+pub any_fits : (m : Core) (d : Question) (store : Kept) (reply : Reply) (hs : List Halted) (asked_by : AskedBy m d hs) (q : Request) → IsTheirs m d hs asked_by q → wanted q ≡ want.Of kind.Any → FitsWho m d store reply hs asked_by
 any_fits m d store reply [] alone q theirs any = tt
 any_fits m d store reply (h ∷ hs) waits q theirs any = λ store' a grown gives.
     subst (λ (w : Wanted). IsAnswer store'.made w (got_of a)) (sym (ap wanted theirs ∙ any)) (any_answer store'.made a gives.heard gives.raises)
@@ -176,7 +176,7 @@ created_seen list x made fresh act =
 same_function : (objects : List Payload) (f : Obj) (b c : FunctionBody) → HasPayload objects f (payload.Function b) → HasPayload objects f (payload.Function c) → b ≡ c
 same_function objects f b c is other = let both : Some (payload.Function b) ≡ Some (payload.Function c) = sym is ∙ other in cc both
 
-module _ (m : Core) (d : Drive) (r : Running) (f : Obj) (kind : CoroKind) (x : KeptGenerator) (store : Kept) (k : Keeps m d (stage.Made r f)) (is_kind : r.kind ≡ Some kind) (new : IsCreated m r f kind x store) where
+module _ (m : Core) (d : Question) (r : Running) (f : Obj) (kind : CoroKind) (x : KeptGenerator) (store : Kept) (k : Keeps m d (stage.Made r f)) (is_kind : r.kind ≡ Some kind) (new : IsCreated m r f kind x store) where
   -- what the generator is
   abbrev body : CoroBody
   body = record { activation = r.act; name = new.body.name; kind = kind }
@@ -293,7 +293,7 @@ call_replied m s (left.Yield v) plain ending leaves = absurd (let clash : Some l
 call_replied m s (left.Return v) plain ending leaves = (Is v, refl, record { plain = refl; gives = λ before named. refl; below = ending })
 call_replied m s (left.Raise e) plain ending leaves = (Passes (This e), refl, (record { plain = refl; gives = λ before named. refl; below = ending.0; raises = ending.1 }, refl))
 
-module _ (m : Core) (d : Drive) (s : Suspended) (how : CoroEnd) (k : Keeps m d (stage.Due s how)) where
+module _ (m : Core) (d : Question) (s : Suspended) (how : CoroEnd) (k : Keeps m d (stage.Due s how)) where
   abbrev asks : Asker m d m.callers s.running.kind s.running.act
   asks = asker m d s.running.kind s.running.act m.callers k.follows.stack k.nested.frames k.nested.slots k.nested.apart k.at_stage.2.inside
 

@@ -20,7 +20,7 @@ use Rattle.py_answers.specs.Answers.{Reply, GivesDrive}
 use Rattle.py_objects.specs.declared.edit.LinkField.TheVariants as link
 use Rattle.py_answers.specs.Readable.{ChangeUnread}
 use Rattle.py_answers.proofs.ReadableLemmas.{change_unread, changes_grown}
-use Rattle.py_run.specs.declared.drive.Question.{Question as Drive}
+use Rattle.py_run.specs.declared.drive.Question.{Question}
 use Rattle.py_run.specs.declared.drive.Question.TheVariants.{Close}
 use Rattle.py_run.specs.declared.drive.Makings.{Makings}
 use Rattle.py_run.specs.Normalized.{NormalizesTo}
@@ -54,7 +54,7 @@ use Rattle.py_objects.proofs.BelowLemmas.{ChangesBelow-more, ChangesBelow-append
 use Rattle.py_objects.proofs.OriginalsLemmas.{AreMarked-later}
 
 -- the drive of a script that is asked in its place, where it doesn't matter which
-abbrev pub any_drive : Drive
+abbrev pub any_drive : Question
 any_drive = Close (record { number = 0 })
 
 -- ---- between drives
@@ -101,7 +101,7 @@ module _ (m : Core) (idle : IsIdle m) where
   asks = (begun_law m any_drive begins).keeps
 
 -- it has its result, and nothing else was done
-pub result_keeps : (m : Core) (d : Drive) (w : DriveAnswer) → Keeps m d stage.Asking → AllBelow (length m.world.store.made) (result_numbers w) → Keeps (result_by m w) d stage.Idle
+pub result_keeps : (m : Core) (d : Question) (w : DriveAnswer) → Keeps m d stage.Asking → AllBelow (length m.world.store.made) (result_numbers w) → Keeps (result_by m w) d stage.Idle
 result_keeps m d w k below =
     let e : Event = event.Result (m.done + 1) w in
     let none : m.callers ≡ [] = k.at_stage in

@@ -4,7 +4,7 @@ use Rattle.std.specs.Prelude.{Option, None}
 use Rattle.py_objects.specs.declared.refs.PyBaseExceptionRef.{PyBaseExceptionRef}
 use Rattle.py_objects.specs.declared.event.Event.{Event}
 use Rattle.py_objects.specs.declared.event.Event.TheVariants as event
-use Rattle.py_run.specs.declared.drive.Question.{Question as Drive}
+use Rattle.py_run.specs.declared.drive.Question.{Question}
 use Rattle.py_run.specs.Links.{IsFrameOf}
 use Rattle.py_run.specs.Run.{Activation, start, state_after}
 use Rattle.py_vm.specs.declared.stage.Running.{Running}
@@ -56,7 +56,7 @@ module _ (m : Core) where
   none_listed none = subst (λ hs. AreFramesOf m.world.store.made made (caller_acts m.events hs) (caller_frames hs)) (sym none) refl
 
   -- at each stage
-  stage_listed : (d : Drive) (s : Stage) → AtStage m.world.codes m.globals m.world.store.made m.events m.world.generators d m.made m.callers s
+  stage_listed : (d : Question) (s : Stage) → AtStage m.world.codes m.globals m.world.store.made m.events m.world.generators d m.made m.callers s
       → AreFramesOf m.world.store.made made (acts_of m.events m.callers s) (frames_at m.callers s)
   stage_listed d stage.Idle none = none_listed none
   stage_listed d stage.Begins none = none_listed none
@@ -79,7 +79,7 @@ module _ (m : Core) where
   stage_listed d (stage.Due s how) at = callers_listed m.callers (inside_halted m m.world.generators d s.running.kind s.running.act m.callers at.2.inside)
 
 -- a machine that makes a drive lists the frames of what runs
-pub listed : (m : Core) (d : Drive) → Keeps m d m.stage → ListsFrames (seen m)
+pub listed : (m : Core) (d : Question) → Keeps m d m.stage → ListsFrames (seen m)
 listed m d k = (
   k.told.framed ∙ sym k.follows.made,
   subst (λ acts. AreFramesOf m.world.store.made (made m) acts m.frames) (sym k.follows.stack)

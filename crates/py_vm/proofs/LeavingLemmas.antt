@@ -34,7 +34,7 @@ use Rattle.py_coro.specs.Leaving.{mode_behind, raised, value_if, Finishes}
 use Rattle.py_coro.specs.Coros.{AreRead}
 use Rattle.py_coro.specs.Refusals.{ignoring, stopping, word_of}
 use Rattle.py_frame.specs.declared.input.Answer.{Answer}
-use Rattle.py_run.specs.declared.drive.Question.{Question as Drive}
+use Rattle.py_run.specs.declared.drive.Question.{Question}
 use Rattle.py_run.specs.Calls.{reply_by}
 use Rattle.py_run.specs.Drives.{request_of}
 use Rattle.py_vm.specs.declared.reply.Reply.{Reply as MadeReply}
@@ -50,7 +50,8 @@ use Rattle.py_vm.specs.Raising.{NotedOne}
 use Rattle.py_vm.specs.Courses.{IsReplied, RepliesRaise, IsPassedBy}
 use Rattle.py_vm.specs.Generators.{changed_at, generator_asked, kept_at, kept_by, kept_in, settled, IsRunningNow}
 use Rattle.py_vm.specs.Stands.{IsEnding}
-use Rattle.py_vm.specs.Turns.{got_by, passed, AreReady, Finished, FirstAsks, IsAnswerTo, IsSettled, Questioned, Replies, SettledOne, Started, end_numbers}
+use Rattle.py_vm.specs.Turns.{got_by, passed, Finished, IsAnswerTo, IsSettled, Questioned, Replies, SettledOne, Started, end_numbers}
+use Rattle.py_vm.specs.Ready.{AreReady, FirstAsks}
 use Rattle.py_vm.proofs.CallsLemmas.{raise_given}
 
 -- ---- how an activation was left
@@ -209,13 +210,13 @@ module _ (m : Core) (g : Obj) (s : Suspended) (how : CoroEnd) (runs : IsRunningN
 -- ---- whose answer it is
 
 -- there is one
-pub some_question : (w : World) (events : List Event) (d : Drive) (hs : List Halted) → FirstAsks w events hs → (q : Request) × Questioned events d hs q
+pub some_question : (w : World) (events : List Event) (d : Question) (hs : List Halted) → FirstAsks w events hs → (q : Request) × Questioned events d hs q
 some_question w events d [] asks = (request_of d, refl)
 some_question w events d (h ∷ hs) ((act, q, own, at, entry), traceable) = (q, (act, own, at, entry))
 
 -- ---- who asked gets the answer
 
-module _ (m : Core) (d : Drive) (s : Suspended) (how : CoroEnd) (q : Request) (asks : Questioned m.events d m.callers q) where
+module _ (m : Core) (d : Question) (s : Suspended) (how : CoroEnd) (q : Request) (asks : Questioned m.events d m.callers q) where
   -- of a call
   pub finished_call : (a : Option DriveAnswer) (m' : Core) → None ≡ generator_asked q → Replies m (passed how) m.callers a m' → Finished m d s how a m'
   finished_call a m' none replies =
@@ -261,7 +262,7 @@ module _ (m : Core) (s : Stage) where
     replies_at (record m { world = record m.world { store = store; generators = m.world.generators ++ x ∷ [] } }) (made.Value x.object) m.callers a m' replies,
   )
 
-  pub finished_at : (d : Drive) (t : Suspended) (how : CoroEnd) (a : Option DriveAnswer) (m' : Core) → Finished (record m { stage = s }) d t how a m' → Finished m d t how a m'
+  pub finished_at : (d : Question) (t : Suspended) (how : CoroEnd) (a : Option DriveAnswer) (m' : Core) → Finished (record m { stage = s }) d t how a m' → Finished m d t how a m'
   finished_at d t how a m' (q, asks, store, list, w, is_settled, replies) =
       (q, asks, store, list, w, settles (generator_asked q) is_settled, replies_at (record m { world = record m.world { store = store; generators = list } }) w m.callers a m' replies)
     where

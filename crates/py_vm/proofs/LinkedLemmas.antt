@@ -22,7 +22,7 @@ use Rattle.py_vm.specs.RowsOf.{RowsUnder}
 use Rattle.py_answers.proofs.ReadableLemmas.{link_stays}
 use Rattle.py_vm.proofs.LinksLemmas.{link_below}
 use Rattle.py_vm.proofs.RowsOfLemmas.{rows_under_still}
-use Rattle.py_run.specs.declared.drive.Question.{Question as Drive}
+use Rattle.py_run.specs.declared.drive.Question.{Question}
 use Rattle.py_objects.specs.declared.event.DriveAnswer.{DriveAnswer}
 use Rattle.py_run.specs.Run.{State, start, state_after}
 use Rattle.py_run.proofs.OwnLemmas.{state_lists}
@@ -106,16 +106,16 @@ kept_trans m0 m m' low high first second = record {
 }
 
 -- no event goes
-pub drove_longer : (m0 m : Core) (d : Drive) (n : ℕ) → Drove m0 d n m → length m0.events ≤ length m.events
+pub drove_longer : (m0 m : Core) (d : Question) (n : ℕ) → Drove m0 d n m → length m0.events ≤ length m.events
 drove_longer m0 m d n drove = let sum : length m.events ≡ length m0.events + length drove.part = ap length drove.events ∙ length-append m0.events drove.part in omega (arith, sum)
 
-pub kept_on : (m0 m m' : Core) (d : Drive) (n : ℕ) (a : Option DriveAnswer) → Drove m0 d n m → Advances m d a m' → IsCarriedOn m0 m'
+pub kept_on : (m0 m m' : Core) (d : Question) (n : ℕ) (a : Option DriveAnswer) → Drove m0 d n m → Advances m d a m' → IsCarriedOn m0 m'
 kept_on m0 m m' d n a drove turns =
     let one : length m'.events ≡ length m.events + 1 = ap length turns.events ∙ length-append m.events (turns.added ∷ []) in
     kept_trans m0 m m' (drove_longer m0 m d n drove) (omega (arith, one)) drove.kept turns.kept
 
 -- the links of the part so far, among more objects and changes
-pub part_links : (m0 m m' : Core) (d : Drive) (n : ℕ) → (drove : Drove m0 d n m) → IsCarriedOn m m' → LinksCome (may_of m') (lines_of m'.world.codes) m'.world.store.made m'.world.store.changes m0.events (state_after start m0.events) drove.part
+pub part_links : (m0 m m' : Core) (d : Question) (n : ℕ) → (drove : Drove m0 d n m) → IsCarriedOn m m' → LinksCome (may_of m') (lines_of m'.world.codes) m'.world.store.made m'.world.store.changes m0.events (state_after start m0.events) drove.part
 part_links m0 m m' d n drove kept =
     let (others, is) : Grows m.world.store.made m'.world.store.made = plainly_grows m.world.store.made m'.world.store.made kept.grows.objects in
     let (more, after, are) = kept.grows.links in
@@ -127,7 +127,7 @@ part_links m0 m m' d n drove kept =
     (edits_below (length m.world.store.made) m.world.store.changes k.marked.below) (all_seen_below m.world.store.made k.stored.readable.fit)
     (may_of m) (may_of m') (may_grow m m' kept (others, is)) (lines_of m.world.codes) (lines_of m'.world.codes) (lines_stay m m' kept) m0.events (state_after start m0.events) drove.part (omega (arith, sum)) drove.links))
 
-pub links_on : (m0 m m' : Core) (d : Drive) (n : ℕ) (a : Option DriveAnswer) → (drove : Drove m0 d n m) → (turns : Advances m d a m')
+pub links_on : (m0 m m' : Core) (d : Question) (n : ℕ) (a : Option DriveAnswer) → (drove : Drove m0 d n m) → (turns : Advances m d a m')
     → LinksCome (may_of m') (lines_of m'.world.codes) m'.world.store.made m'.world.store.changes m0.events (state_after start m0.events) (drove.part ++ turns.added ∷ [])
 links_on m0 m m' d n a drove turns =
     let st : state_after (state_after start m0.events) drove.part ≡ state_after start m.events = sym (state_lists start m0.events drove.part) ∙ ap (state_after start) (sym drove.events) in

@@ -16,7 +16,7 @@ use Rattle.py_rows.specs.declared.expect.Expect.{Expect}
 use Rattle.py_rows.specs.declared.expect.Expect.TheVariants as expect
 use Rattle.py_frame.specs.Steps.{slot_taken}
 use Rattle.py_frame.proofs.HearingLemmas.{slot_same}
-use Rattle.py_run.specs.declared.drive.Question.{Question as Drive}
+use Rattle.py_run.specs.declared.drive.Question.{Question}
 use Rattle.py_run.specs.Run.{Act, Posed, State, start, state_after, entered_in, depth, handled_among, after}
 use Rattle.py_run.specs.Calls.{Setting}
 use Rattle.py_run.specs.Generators.{Generator, generators_after}
@@ -55,11 +55,11 @@ frames_count events hs (stage.Waiting h) = caller_count events (h ∷ hs)
 frames_count events hs (stage.Due s how) = caller_count events hs
 
 -- the drive that a machine makes is the next one of these
-abbrev pub IsNext : Core → Drive → List Posed → Type 0
+abbrev pub IsNext : Core → Question → List Posed → Type 0
 IsNext m d asked = slice_get asked m.done ≡ Some (posed m.entered d)
 
 -- a question of a run stands where one of the machine does, where what is in the slots is handled
-pub setting_is : (m : Core) (d : Drive) (s : Stage) (asked : List Posed) → Keeps m d s → handled_among (state_after start m.events).stack ≡ topmost m.slots → IsNext m d asked
+pub setting_is : (m : Core) (d : Question) (s : Stage) (asked : List Posed) → Keeps m d s → handled_among (state_after start m.events).stack ≡ topmost m.slots → IsNext m d asked
     → setting (plan_of m.world.codes asked) (past_at m) ≡ setting_at m
 setting_is m d s asked k handled is =
     let st : State = state_after start m.events in
@@ -75,7 +75,7 @@ next_to m e n =
     record m { world = record m.world { store = n.world.store; generators = n.world.generators }; events = m.events ++ e ∷ []; done = n.done; made = n.made; frames = n.frames; callers = n.callers; slots = n.slots; raising = n.raising; stage = n.stage }
 
 -- where a run is behind the event, what the journal keeps, and what runs
-pub record Next (m : Core) (d : Drive) (e : Event) (n : Core) : Type 0 where
+pub record Next (m : Core) (d : Question) (e : Event) (n : Core) : Type 0 where
   pub grown : IsLonger m.world.store n.world.store
   pub done : (after (state_after start m.events) e).done ≡ n.done
   pub phase : (after (state_after start m.events) e).phase ≡ phase_of n.stage
@@ -90,7 +90,7 @@ pub record Next (m : Core) (d : Drive) (e : Event) (n : Core) : Type 0 where
   pub at_stage : AtStage m.world.codes m.globals n.world.store.made (m.events ++ e ∷ []) n.world.generators d n.made n.callers n.stage
 
 -- the machine turns
-pub next_law : (m : Core) (d : Drive) (s : Stage) (e : Event) (a : Option DriveAnswer) (n : Core) → Keeps m d s → Next m d e n → AfterTurn m (next_to m e n) e a
+pub next_law : (m : Core) (d : Question) (s : Stage) (e : Event) (a : Option DriveAnswer) (n : Core) → Keeps m d s → Next m d e n → AfterTurn m (next_to m e n) e a
     → ((asked : List Posed) → IsNext m d asked → MayCome (plan_of m.world.codes asked) n.world.store.made (past_at m) e) → Turns m d s a (next_to m e n)
 next_law m d s e a n k x ends comes =
     let next = state_after-append start m.events e in
@@ -126,7 +126,7 @@ next_law m d s e a n k x ends comes =
     past : List Event → State → List Generator → Past
     past events st xs = record { events = events ++ e ∷ []; state = st; generators = xs }
 
-module _ (m : Core) (s : Stage) (store : Kept) (e : Event) (d : Drive) (k : Keeps m d s) (grown : IsGrown m.world.store store)
+module _ (m : Core) (s : Stage) (store : Kept) (e : Event) (d : Question) (k : Keeps m d s) (grown : IsGrown m.world.store store)
     (same : (after (state_after start m.events) e).made ≡ (state_after start m.events).made) (below : AllBelow (length store.made) (event_numbers e)) where
   -- the journal behind an event of the drive
   pub drive_told : 0 ≡ whose e → IsTold m.world.codes m.globals store.made (m.events ++ e ∷ []) m.made
@@ -153,8 +153,8 @@ slots_left None outer slots before slot is = ap (λ l. slice_set l 0 slot) is
 slots_left (Some kind) outer slots before slot is = ap (λ l. slice_set l 0 slot) is
 
 -- at most as many drives are done, and activations made, as there are events
-pub done_counted : (m : Core) (d : Drive) (s : Stage) → Keeps m d s → m.done ≤ length m.events
+pub done_counted : (m : Core) (d : Question) (s : Stage) → Keeps m d s → m.done ≤ length m.events
 done_counted m d s k = subst (λ n. n ≤ length m.events) k.follows.done (done_below m.events)
 
-pub made_counted : (m : Core) (d : Drive) (s : Stage) → Keeps m d s → m.made ≤ length m.events
+pub made_counted : (m : Core) (d : Question) (s : Stage) → Keeps m d s → m.made ≤ length m.events
 made_counted m d s k = subst (λ n. n ≤ length m.events) k.follows.made (made_below m.events)

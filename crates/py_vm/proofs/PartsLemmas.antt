@@ -38,7 +38,7 @@ use Rattle.py_coro.specs.Modes.{Mode, Fresh, Suspended as Left, Running as Enter
 use Rattle.py_answers.specs.Answers.{Reply}
 use Rattle.py_answers.specs.Readable.{IsReadable}
 use Rattle.py_answers.specs.Replying.{IsGenerator}
-use Rattle.py_run.specs.declared.drive.Question.{Question as Drive}
+use Rattle.py_run.specs.declared.drive.Question.{Question}
 use Rattle.py_run.specs.Calls.{Setting}
 use Rattle.py_vm.specs.declared.calls.Course.{Course as MadeCourse}
 use Rattle.py_vm.specs.declared.calls.Course.TheVariants as course
@@ -60,7 +60,8 @@ use Rattle.py_vm.specs.Courses.{EntersBy, IsCourse, IsReplied, IsResumption, Nam
 use Rattle.py_vm.specs.Generators.{changed_at, entered_at, generator_asked, is_close, kept_at, without_activation, IsRunningNow}
 use Rattle.py_vm.specs.declared.raising.Raising.{Raising}
 use Rattle.py_vm.specs.Raising.{raising_in, NotedOne}
-use Rattle.py_vm.specs.Turns.{fresh, next_frame, passed, setting_at, AnsweredOne, AreReady, AsksNoRaise, CanFinish, CanFollow, CanReply, Comes_on, CreatedOne, Finished, FirstAsks, FirstRaises, FollowedOne, Halts, HasOwnSlot, HoldsIn, IsCreated, IsEntering, IsFreshFor, IsOpened, IsResumable, IsSaid, IsStepped, IsToldStep, MadeOne, Questioned, Replies, ResumedOne, SettledOne, WentOn}
+use Rattle.py_vm.specs.Turns.{fresh, next_frame, passed, setting_at, AnsweredOne, Comes_on, CreatedOne, Finished, FollowedOne, Halts, IsCreated, IsEntering, IsFreshFor, IsOpened, IsResumable, IsSaid, IsStepped, IsToldStep, MadeOne, Questioned, Replies, ResumedOne, SettledOne, WentOn}
+use Rattle.py_vm.specs.Ready.{AreReady, AsksNoRaise, CanFinish, CanFollow, CanReply, FirstAsks, FirstRaises, HasOwnSlot, HoldsIn}
 use Rattle.py_vm.proofs.JournalLemmas.{readable_on}
 use Rattle.py_vm.proofs.KeptLemmas.{kept_changed}
 use Rattle.py_vm.proofs.NotedLemmas.{noted_grown}
@@ -457,12 +458,12 @@ module _ (m n : Core) (r : Running) (f : Obj) (kind : CoroKind) (g : Obj) (creat
   created_halts = let (x, store, created, is, same) = creates in still_halts m store (m.world.generators ++ x ∷ []) n same (created_grown store x created)
 
 -- the generator that the open question asks runs
-pub entered_runs : (m : Core) (d : Drive) (how : CoroEnd) (o : Option Obj) (g : Obj) → CanFinish m d how → ((q : Request) → Questioned m.events d m.callers q → o ≡ generator_asked q) → o ≡ Some g
+pub entered_runs : (m : Core) (d : Question) (how : CoroEnd) (o : Option Obj) (g : Obj) → CanFinish m d how → ((q : Request) → Questioned m.events d m.callers q → o ≡ generator_asked q) → o ≡ Some g
     → IsRunningNow m.world.generators g × IsGenerator m.world.store.made g
 entered_runs m d how o g (stored, ending, runs, asks, none) entered is = let (q, asked) = some_question m.world m.events d m.callers asks in runs q asked g (sym (entered q asked) ∙ is)
 
 -- what finishes a call or a generator, whichever the open question asks
-module _ (m : Core) (d : Drive) (s : Suspended) (how : CoroEnd) (o : Option Obj) (can : CanFinish m d how) (entered : (q : Request) → Questioned m.events d m.callers q → o ≡ generator_asked q) where
+module _ (m : Core) (d : Question) (s : Suspended) (how : CoroEnd) (o : Option Obj) (can : CanFinish m d how) (entered : (q : Request) → Questioned m.events d m.callers q → o ≡ generator_asked q) where
   pub call_finished : (a : Option DriveAnswer) (m' : Core) → o ≡ None → Replies m (passed how) m.callers a m' → Finished m d s how a m'
   call_finished a m' none replies =
       let (q, asked) = some_question m.world m.events d m.callers can.3 in

@@ -41,7 +41,8 @@ use Rattle.py_vm.specs.Codes.{Checked}
 use Rattle.py_vm.specs.Courses.{GivesReply, IsReplied, RaisesThere}
 use Rattle.py_vm.specs.Raising.{brought, raising_by, raising_in, IsTraceable, RaisesException}
 use Rattle.py_vm.specs.Stands.{HasEntered, IsEnding, asking}
-use Rattle.py_vm.specs.Turns.{passed, setting_at, AsksNoRaise, FirstAsks, FirstRaises}
+use Rattle.py_vm.specs.Turns.{passed, setting_at}
+use Rattle.py_vm.specs.Ready.{AsksNoRaise, FirstAsks, FirstRaises}
 use Rattle.py_vm.proofs.AskedLemmas.{raised_exception}
 use Rattle.py_vm.proofs.ChainLemmas.{raised_grown}
 use Rattle.py_vm.proofs.WantedLemmas.{said_wanted}

@@ -1,14 +1,10 @@
--- A drive by which an exception is reported: what it leaves of a machine between drives, and which part of a run it adds.
-use Rattle.std.proofs.Common.{◌≡◌, ◌≤◌, ◌<◌, ◌+◌, ◌++◌, ℕ, suc, List, [], ◌∷◌, true, false, Some, Ok, Err, inl, inr, refl, sym, ap, subst, ◌∙◌, length, length-append, append_assoc, append-nil, arith}
-use Rattle.std.specs.Prelude.{Option, None, slice_get, filter, nat_le}
+-- A drive by which a text is told: what it leaves of a machine between drives, and which part of a run it adds.
+use Rattle.std.proofs.Common.{◌≡◌, ◌+◌, ◌++◌, ℕ, suc, List, [], ◌∷◌, true, false, Some, inr, refl, sym, ap, subst, ◌∙◌, length, length-append, append_assoc, append-nil, arith}
+use Rattle.std.specs.Prelude.{None, slice_get}
 use Rattle.std.proofs.lemmas.Option.{slice_get_within}
 use Rattle.std.proofs.lemmas.List.{append_cancel_left}
-use Rattle.py_objects.specs.declared.refs.PyBaseExceptionRef.{PyBaseExceptionRef}
-use Rattle.py_objects.specs.declared.payload.Payload.{Payload}
-use Rattle.py_objects.specs.declared.edit.Change.{Change}
 use Rattle.py_objects.specs.declared.event.Event.{Event}
 use Rattle.py_objects.specs.declared.event.Event.TheVariants as event
-use Rattle.py_objects.specs.declared.event.DriveAnswer.{DriveAnswer}
 use Rattle.py_objects.specs.declared.event.DriveAnswer.TheVariants as answer
 use Rattle.py_objects.specs.Objects.{Name}
 use Rattle.py_objects.specs.Changes.{changed_by, store_at}
@@ -16,6 +12,7 @@ use Rattle.py_objects.specs.Edits.{objects_of}
 use Rattle.py_objects.proofs.GrowthLemmas.{grows_plainly_refl}
 use Rattle.py_objects.proofs.OriginalsLemmas.{filter-marked}
 use Rattle.py_reports.specs.Scenes.{SourceLines}
+use Rattle.py_run.specs.declared.drive.Told.{Told}
 use Rattle.py_run.specs.Generators.{Generator, closed_by}
 use Rattle.py_run.specs.Links.{HasLinksOf}
 use Rattle.py_run.specs.Reports.{AreReported, IsReportText, scene_among}
@@ -24,18 +21,17 @@ use Rattle.py_run.specs.Coming.{Past, MayCome}
 use Rattle.py_run.specs.Past.{past_behind}
 use Rattle.py_run.proofs.OwnLemmas.{state_after-append}
 use Rattle.py_vm.specs.declared.stage.Stage.{Stage}
-use Rattle.py_vm.specs.declared.stage.Stage.TheVariants as stage
 use Rattle.py_vm.specs.declared.machinery.Core.{Core}
 use Rattle.py_vm.specs.Advancing.{may_of}
 use Rattle.py_vm.specs.Codes.{origins_of}
 use Rattle.py_vm.specs.Generators.{modes_of}
 use Rattle.py_vm.specs.Links.{lines_of}
-use Rattle.py_vm.specs.Machine.{Adds, EndsBy, IsCutShort, IsDoneBy, IsSpent, KeepsGenerators, ListsFrames, done_of, past_of, plan_of, posed_by}
+use Rattle.py_vm.specs.Machine.{Adds, EndsBy, IsCutShort, IsDoneBy, IsSpent, KeepsGenerators, done_of, past_of, plan_of, posed_by}
 use Rattle.py_vm.specs.Normalizing.{forming_by}
-use Rattle.py_vm.specs.Reporting.{IsToldReport, reported_by}
-use Rattle.py_vm.specs.Stands.{IsIdle, Keeps, phase_of, seen}
+use Rattle.py_vm.specs.Reporting.{IsTextOf, objects_now, reported_by}
+use Rattle.py_vm.specs.Stands.{IsIdle, phase_of, seen}
 use Rattle.py_vm.specs.Turns.{begun_by, result_by}
-use Rattle.py_vm.proofs.FormingLemmas.{alone, any_drive, asks, done, done_within, done_more, result_keeps}
+use Rattle.py_vm.proofs.FormingLemmas.{alone, any_drive, asks, done, result_keeps}
 use Rattle.py_vm.proofs.FramesLemmas.{listed}
 use Rattle.py_vm.proofs.JournalLemmas.{next_number}
 use Rattle.py_vm.proofs.LinksLemmas.{none_then}
@@ -64,7 +60,16 @@ nothing_adds m idle pose sources = record {
 pub no_turns : (m : Core) → IsIdle m → (turns : ℕ) → turns ≡ 0 → IsSpent (seen m) turns (seen (record m { failed = true }))
 no_turns m idle turns none = (omega (arith, none), refl, refl, listed m any_drive (kept_idle m idle))
 
-module _ (m : Core) (idle : IsIdle m) (works : m.failed ≡ false) (e : Option PyBaseExceptionRef) (sources : List SourceLines) where
+-- the objects of a machine between drives are those that are there
+pub objects_are : (m : Core) → IsIdle m → objects_now (seen m) ≡ objects_of m.world.store
+objects_are m idle = ap (changed_by m.world.store.made) (filter-marked (length m.events) (length m.events) m.world.store.changes (omega arith) (kept_idle m idle).marked.past)
+
+-- so what is told of these is told of a machine
+pub text_now : (m : Core) → IsIdle m → (t : Told) (sources : List SourceLines) (text : Name)
+    → IsReportText (scene_among (origins_of m.world.codes sources) (objects_of m.world.store)) t text → IsTextOf (seen m) sources t text
+text_now m idle t sources text is = subst (λ l. IsReportText (scene_among (origins_of m.world.codes sources) l) t text) (sym (objects_are m idle)) is
+
+module _ (m : Core) (idle : IsIdle m) (works : m.failed ≡ false) (e : Told) (sources : List SourceLines) where
   abbrev first : Event
   first = event.Drive (m.done + 1)
 

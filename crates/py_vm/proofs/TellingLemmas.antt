@@ -20,7 +20,7 @@ use Rattle.py_frame.specs.declared.input.FrameStep.{FrameStep}
 use Rattle.py_frame.specs.declared.input.FrameStep.TheVariants as step
 use Rattle.py_frame.specs.Exits.{HasTraceback, IsTold, TellsExit}
 use Rattle.py_frame.specs.Frames.{Framed, setting_of}
-use Rattle.py_run.specs.declared.drive.Question.{Question as Drive}
+use Rattle.py_run.specs.declared.drive.Question.{Question}
 use Rattle.py_run.specs.Links.{AsksNow, IsToldNow}
 use Rattle.py_run.proofs.LinksLemmas.{traceback_grown}
 use Rattle.py_vm.specs.declared.stage.Running.{Running}
@@ -66,7 +66,7 @@ module _ (old new : Kept) (readable : IsReadable old) (grown : IsGrown old new) 
 module _ (m : Core) (r : Running) (store : Kept) where
   pub step_tells : (s : FrameStep) (f : Framed) → IsReadable m.world.store → IsGrown m.world.store store → IsToldStep m.world.codes store.made r s f → TellsExit m.world.store store s → TellsStep store s
   step_tells (step.Ask (request.Exit x c e t) own) f readable grown taken exit =
-      let (o, is_exit, others) =
+      let (o, is_exit) =
       exit_told store.made (setting_of m.world.codes.names taken.code r.frame) r.frame.state f.state x c e t own _ taken.may.0 (taken.extends r.frame.state [] still) in
       by o is_exit
     where
@@ -83,7 +83,7 @@ module _ (m : Core) (r : Running) (store : Kept) where
 -- ---- it goes on
 
 -- it goes on by its step
-pub stepped_law : (m : Core) (d : Drive) (r : Running) (store : Kept) (k : Keeps m d (stage.Going r)) (grown : IsGrown m.world.store store) (s : FrameStep) (f : Framed) (m' : Core) → IsToldStep m.world.codes store.made r s f
+pub stepped_law : (m : Core) (d : Question) (r : Running) (store : Kept) (k : Keeps m d (stage.Going r)) (grown : IsGrown m.world.store store) (s : FrameStep) (f : Framed) (m' : Core) → IsToldStep m.world.codes store.made r s f
     → IsStepped (record m { world = record m.world { store = store }; slots = slice_set m.slots 0 f.state.slot }) (record r { frame = f }) s m' → Turns m d (stage.Going r) None m'
 stepped_law m d r store k grown (step.Return v) f m' taken is =
     subst (Turns m d (stage.Going r) None) (sym is) (ended_law m d r store k grown (step.Return v) f (ending.Return v) refl taken taken.extends taken.wants taken.below.0.0 taken.below.0 tt)

@@ -22,7 +22,7 @@ use Rattle.py_rows.specs.Laws.{RaisedThere}
 use Rattle.py_frame.specs.Steps.{got_of}
 use Rattle.py_answers.specs.Answers.{Reply}
 use Rattle.py_answers.specs.Replying.{IsGenerator}
-use Rattle.py_run.specs.declared.drive.Question.{Question as Drive}
+use Rattle.py_run.specs.declared.drive.Question.{Question}
 use Rattle.py_run.specs.Calls.{ComesTo, Says}
 use Rattle.py_run.specs.Drives.{request_of}
 use Rattle.py_run.specs.Raises.{is_raising}
@@ -39,10 +39,11 @@ use Rattle.py_vm.specs.declared.generators.KeptGenerator.{KeptGenerator}
 use Rattle.py_vm.specs.declared.machinery.Core.{Core}
 use Rattle.py_vm.specs.Codes.{Checked}
 use Rattle.py_vm.specs.Generators.{generator_asked, kept_at, modes_of, IsRunningNow}
-use Rattle.py_vm.specs.Machine.{plan_of, IsAskable as IsCallable}
+use Rattle.py_vm.specs.Machine.{plan_of, IsAskable}
 use Rattle.py_vm.specs.Raising.{IsTraceable}
 use Rattle.py_vm.specs.Stands.{AreEach, HasEntered, IsGoing, IsHalted, IsInside, IsKept as IsKeptAs, Keeps, KeepsIn, asking, caller_acts, caller_frames, first_slot, slots_in, stacked}
-use Rattle.py_vm.specs.Turns.{past_at, setting_at, AnsweredOne, AreReady, AsksNoRaise, CanReply, Comes_on, FirstAsks, HasOwnSlot, HoldsIn, IsBusy, IsReady, IsSaid, Replies, Started, Turned, Turns}
+use Rattle.py_vm.specs.Turns.{past_at, setting_at, AnsweredOne, Comes_on, IsBusy, IsSaid, Replies, Started, Turned, Turns}
+use Rattle.py_vm.specs.Ready.{AreReady, AsksNoRaise, CanReply, FirstAsks, HasOwnSlot, HoldsIn, IsReady}
 use Rattle.py_vm.proofs.RaisingLemmas.{entering_none}
 use Rattle.py_vm.proofs.WantedLemmas.{said_wanted}
 use Rattle.py_vm.proofs.KeptLemmas.{kept_object}
@@ -60,7 +61,7 @@ use Rattle.py_vm.proofs.FinishingLemmas.{Asker, asker, calling_none, created_law
 -- ---- an open question comes on
 
 -- what is said is as who asked wants it
-pub said_fits : (m : Core) (d : Drive) (s : Stage) (store : Kept) (reply : Reply) (hs : List Halted) (asked_by : AskedBy m d hs) (q : Request) → Keeps m d s → IsTheirs m d hs asked_by q → IsGrown m.world.store store
+pub said_fits : (m : Core) (d : Question) (s : Stage) (store : Kept) (reply : Reply) (hs : List Halted) (asked_by : AskedBy m d hs) (q : Request) → Keeps m d s → IsTheirs m d hs asked_by q → IsGrown m.world.store store
     → ComesTo (setting_at m) m.world.store.made q (Says reply) → FitsWho m d store reply hs asked_by
 said_fits m d s store reply [] alone q k theirs grown says = tt
 said_fits m d s store reply (h ∷ hs) waits q k theirs grown says = λ store' a more gives.
@@ -73,7 +74,7 @@ said_fits m d s store reply (h ∷ hs) waits q k theirs grown says = λ store' a
     subst (λ r. IsAnswer store'.made (wanted r) (got_of a)) (sym theirs)
     (said_wanted (setting_at m) store'.made m.events q reply (got_of a) there_then gives.raises (gives.gives m.events k.told.named) comes)
 
-module _ (m : Core) (d : Drive) (s : Stage) (hs : List Halted) (q : Request) (k : Keeps m d s) (opened : IsOpen m d q) (asked_by : AskedBy m d hs) (theirs : IsTheirs m d hs asked_by q) (none : hs ≡ [] → m.callers ≡ []) where
+module _ (m : Core) (d : Question) (s : Stage) (hs : List Halted) (q : Request) (k : Keeps m d s) (opened : IsOpen m d q) (asked_by : AskedBy m d hs) (theirs : IsTheirs m d hs asked_by q) (none : hs ≡ [] → m.callers ≡ []) where
   -- it is answered at once
   said_law : (store : Kept) (list : List KeptGenerator) (w : MadeReply) → IsSaid m q store list w → (a : Option DriveAnswer) (m' : Core) → Replies (record m { world = record m.world { store = store; generators = list }; callers = hs }) w hs a m' → Turns m d s a m'
   said_law store list w said a m' replies =
@@ -97,12 +98,12 @@ module _ (m : Core) (d : Drive) (s : Stage) (hs : List Halted) (q : Request) (k 
 -- ---- each stage turns
 
 -- an activation that was made is entered, or becomes a generator
-started_law : (m : Core) (d : Drive) (r : Running) (f : Obj) (a : Option DriveAnswer) (m' : Core) (kind : Option CoroKind) → r.kind ≡ kind → Keeps m d (stage.Made r f) → Started m r f kind a m' → Turns m d (stage.Made r f) a m'
+started_law : (m : Core) (d : Question) (r : Running) (f : Obj) (a : Option DriveAnswer) (m' : Core) (kind : Option CoroKind) → r.kind ≡ kind → Keeps m d (stage.Made r f) → Started m r f kind a m' → Turns m d (stage.Made r f) a m'
 started_law m d r f a m' None plain k (no_answer, is) = subst (λ x. Turns m d (stage.Made r f) x m') (sym no_answer) (subst (Turns m d (stage.Made r f) None) (sym is) (entered_law m d r f plain k))
 started_law m d r f a m' (Some kind) is k (x, store, new, replies) = created_law m d r f kind x store k is new a m' replies
 
 -- what an activation asked that waits comes to
-answered_law : (m : Core) (d : Drive) (h : Halted) (a : Option DriveAnswer) (m' : Core) → Keeps m d (stage.Waiting h) → AnsweredOne m h a m' → Turns m d (stage.Waiting h) a m'
+answered_law : (m : Core) (d : Question) (h : Halted) (a : Option DriveAnswer) (m' : Core) → Keeps m d (stage.Waiting h) → AnsweredOne m h a m' → Turns m d (stage.Waiting h) a m'
 answered_law m d h a m' k (n, q, own, at, entry, comes) =
     let x : IsHalted m.world.codes m.globals m.world.store.made m.events h (first_slot h.running.kind m.callers) = k.at_stage.0 in
     let both : Some (event.Ask n q own at) ≡ Some (event.Ask x.question.act x.question.request x.question.own x.question.at) = sym entry ∙ x.question.entry in
@@ -118,7 +119,7 @@ answered_law m d h a m' k (n, q, own, at, entry, comes) =
       slots = k.nested.slots;
     }) refl (λ is. absurd (cc is)) x.question.below a m' (subst (λ r. Comes_on m r (h ∷ m.callers) a m') same comes)
 
-pub turned_law : (m : Core) (d : Drive) (s : Stage) (a : Option DriveAnswer) (m' : Core) → Keeps m d s → IsCallable m.world.store.made d → Turned m d s a m' → Turns m d s a m'
+pub turned_law : (m : Core) (d : Question) (s : Stage) (a : Option DriveAnswer) (m' : Core) → Keeps m d s → IsAskable m.world.store.made d → Turned m d s a m' → Turns m d s a m'
 turned_law m d stage.Idle a m' k callable turned = absurd turned
 turned_law m d stage.Begins a m' k callable (no_answer, is) = subst (λ x. Turns m d stage.Begins x m') (sym no_answer) (subst (Turns m d stage.Begins None) (sym is) (begun_law m d k))
 turned_law m d stage.Asking a m' k callable comes =
@@ -146,7 +147,7 @@ are_ready codes globals objects events made (x ∷ xs) each =
     (slice_get_within objects x.object.number _ each.0.entry, holds_in codes globals objects events x.generator.mode x each.0.activation, are_ready codes globals objects events made xs each.1)
 
 -- it can reply, where these wait
-can_reply : (m : Core) (d : Drive) (s : Stage) (hs : List Halted) → Keeps m d s → m.slots ≡ slots_in hs → AreHalted m hs → CanReply m
+can_reply : (m : Core) (d : Question) (s : Stage) (hs : List Halted) → Keeps m d s → m.slots ≡ slots_in hs → AreHalted m hs → CanReply m
 can_reply m d s hs k slots halted = record {
   stored = k.stored;
   runnable = k.runnable;
@@ -166,7 +167,7 @@ own_over m (Some kind) slot hs =
     omega (arith, long)
 
 -- the generator that was entered is one, and runs
-entered_runs : (m : Core) (d : Drive) (s : Suspended) → AreEach m.world.codes m.globals m.world.store.made m.events m.made m.world.generators → (asks : Asker m d m.callers s.running.kind s.running.act) → (g : Obj) → generator_asked asks.q ≡ Some g
+entered_runs : (m : Core) (d : Question) (s : Suspended) → AreEach m.world.codes m.globals m.world.store.made m.events m.made m.world.generators → (asks : Asker m d m.callers s.running.kind s.running.act) → (g : Obj) → generator_asked asks.q ≡ Some g
     → IsRunningNow m.world.generators g × IsGenerator m.world.store.made g
 entered_runs m d s each asks g is = by_kind s.running.kind asks.entered
   where
@@ -199,14 +200,14 @@ first_asks m (h ∷ hs) halted =
     ((q.act, q.request, q.own, q.at, q.entry), traceable m h (first_slot h.running.kind hs) halted.0)
 
 -- and raises no value where it entered an activation
-no_raise : (m : Core) (d : Drive) (kind : Option CoroKind) (a : ℕ) (hs : List Halted) → IsInside m.world.codes m.globals m.world.store.made m.events m.world.generators d kind a hs → AsksNoRaise m.events hs
+no_raise : (m : Core) (d : Question) (kind : Option CoroKind) (a : ℕ) (hs : List Halted) → IsInside m.world.codes m.globals m.world.store.made m.events m.world.generators d kind a hs → AsksNoRaise m.events hs
 no_raise m d kind a [] inside = tt
 no_raise m d kind a (h ∷ hs) inside =
     let q = inside.0.question in
     ap (λ (x : Option Event). is_raising (asking h.running.act x).asks) q.entry ∙ entering_none m.world.generators q.request kind a inside.1
 
 -- a machine that keeps its invariant is ready for its turn
-pub ready_law : (m : Core) (d : Drive) (s : Stage) → Keeps m d s → IsBusy s → IsCallable m.world.store.made d → IsReady m d s
+pub ready_law : (m : Core) (d : Question) (s : Stage) → Keeps m d s → IsBusy s → IsAskable m.world.store.made d → IsReady m d s
 ready_law m d stage.Idle k busy callable = absurd busy
 ready_law m d stage.Begins k busy callable = done_counted m d stage.Begins k
 ready_law m d stage.Asking k busy callable =

@@ -4,7 +4,7 @@ use Rattle.py_objects.specs.declared.event.Event.{Event}
 use Rattle.py_objects.specs.declared.event.DriveAnswer.{DriveAnswer}
 use Rattle.py_objects.specs.Objects.{AllBelow}
 use Rattle.py_objects.specs.Changes.{store_at}
-use Rattle.py_run.specs.declared.drive.Question.{Question as Drive}
+use Rattle.py_run.specs.declared.drive.Question.{Question}
 use Rattle.py_run.specs.Run.{Posed, start, state_after}
 use Rattle.py_run.specs.Coming.{MayCome, Comes, past_after}
 use Rattle.py_run.specs.Links.{HasLinksOf, LinksCome, MayUnder, TellsNow}
@@ -12,7 +12,7 @@ use Rattle.py_run.specs.Past.{past_behind}
 use Rattle.py_vm.specs.declared.machinery.Core.{Core}
 use Rattle.py_vm.specs.Codes.{plain_codes}
 use Rattle.py_vm.specs.Links.{lines_of, rows_under, GrowsLinked}
-use Rattle.py_vm.specs.Machine.{done_in, posed, plan_of, question_numbers as drive_numbers}
+use Rattle.py_vm.specs.Machine.{done_in, posed, plan_of, question_numbers}
 use Rattle.py_vm.specs.Stands.{Keeps}
 use Rattle.py_vm.specs.Turns.{past_at, AfterTurn, IsBusy}
 
@@ -36,7 +36,7 @@ pub record HaltsThere (m m' : Core) : Type 0 where
 
 -- one turn of a drive: one event more, which may come and tells what it may, with the links that come of it; it makes of the generators what they are by
 -- then
-pub record Advances (m : Core) (d : Drive) (a : Option DriveAnswer) (m' : Core) : Type 0 where
+pub record Advances (m : Core) (d : Question) (a : Option DriveAnswer) (m' : Core) : Type 0 where
   pub keeps : Keeps m' d m'.stage
   pub added : Event
   pub events : m'.events ≡ m.events ++ added ∷ []
@@ -48,13 +48,13 @@ pub record Advances (m : Core) (d : Drive) (a : Option DriveAnswer) (m' : Core) 
   pub links : HasLinksOf (may_of m') (lines_of m'.world.codes) m'.world.store.made m'.world.store.changes m.events (state_after start m.events) added
 
 -- the same, with the answer last
-abbrev pub AdvancesOn : Core → Drive → Core → Option DriveAnswer → Type 0
+abbrev pub AdvancesOn : Core → Question → Core → Option DriveAnswer → Type 0
 AdvancesOn m d m' a = Advances m d a m'
 
 -- n turns of a drive, which isn't done
-pub record Drove (m : Core) (d : Drive) (n : ℕ) (m' : Core) : Type 0 where
+pub record Drove (m : Core) (d : Question) (n : ℕ) (m' : Core) : Type 0 where
   pub keeps : Keeps m' d m'.stage
-  pub callable : AllBelow (length m'.world.store.made) (drive_numbers d)
+  pub callable : AllBelow (length m'.world.store.made) (question_numbers d)
   pub part : List Event
   pub count : length part ≡ n
   pub events : m'.events ≡ m.events ++ part

@@ -4,7 +4,8 @@ ghost use Rattle.std.specs.Prelude.{◌≡◌, ◌≤◌, length, IfOk, OnOk, On
 ghost use Rattle.py_objects.specs.Objects.{IsFunction};
 ghost use Rattle.py_answers.specs.Readable.{IsReadable};
 ghost use Rattle.py_vm.specs.Holds.{AreRunnable};
-ghost use Rattle.py_vm.specs.Turns.{entered_by, input_of, AsksNoRaise, CanReply, CreatesOne, FirstAsks, Halts, IsResumable, MadeOne, MakesFresh, ResumedOne, StartedOne};
+ghost use Rattle.py_vm.specs.Turns.{entered_by, input_of, CreatesOne, Halts, IsResumable, MadeOne, MakesFresh, ResumedOne, StartedOne};
+ghost use Rattle.py_vm.specs.Ready.{AsksNoRaise, CanReply, FirstAsks};
 
 use crate::calls::kind_of;
 use crate::generators::KeptGenerator;

@@ -5,7 +5,8 @@ ghost use Rattle.py_answers.specs.Replying.{IsGenerator};
 ghost use Rattle.py_run.specs.Drives.{request_of};
 ghost use Rattle.py_vm.specs.Generators.{generator_asked, IsRunningNow};
 ghost use Rattle.py_vm.specs.Stands.{IsEnding, IsStored};
-ghost use Rattle.py_vm.specs.Turns.{left_of, own_slot, passed, popped, CanFinish, EntersAs, Finished, FirstAsks, Halts, HasOwnSlot, SettledOne};
+ghost use Rattle.py_vm.specs.Turns.{left_of, own_slot, passed, popped, EntersAs, Finished, Halts, SettledOne};
+ghost use Rattle.py_vm.specs.Ready.{CanFinish, FirstAsks, HasOwnSlot};
 
 use crate::frames::FrameList;
 use crate::machinery::Core;

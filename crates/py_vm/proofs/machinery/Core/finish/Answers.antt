@@ -1,7 +1,8 @@
 use Rattle.std.proofs.Common.{subst, sym}
 use Rattle.std.proofs.lemmas.Result.{IfOk-weaker, on_err_weaker}
 use Rattle.py_vm.specs.declared.reply.Reply.{Reply as MadeReply}
-use Rattle.py_vm.specs.Turns.{FirstRaises, Replies}
+use Rattle.py_vm.specs.Turns.{Replies}
+use Rattle.py_vm.specs.Ready.{FirstRaises}
 use Rattle.py_vm.proofs.PartsLemmas.{call_finished, entered_runs, generator_finished, halts_trans, settled_halts, settled_raises, settled_replies}
 use Rattle.py_vm.proofs.RaisingLemmas.{passed_raises}
 use Rattle.py_vm.proofs.machinery.Core.finish.Goals as goal

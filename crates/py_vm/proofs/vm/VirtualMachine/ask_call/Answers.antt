@@ -1,4 +1,4 @@
-use Rattle.std.proofs.Common.{◌≡◌, true, false, sym, ap, ◌∙◌, subst}
+use Rattle.std.proofs.Common.{◌≡◌, sym, ap, ◌∙◌, subst}
 use Rattle.py_run.specs.declared.drive.Question.TheVariants.{Call as Calls}
 use Rattle.py_run.specs.Drives.{request_of}
 use Rattle.py_run.specs.Run.{Pose, Requests}

@@ -1,0 +1,2 @@
+-- What is proved of machines that tests make.
+pub mod AddedLemmas
