@@ -91,27 +91,36 @@ abbrev pub TellsIt : Event → Obj → Type 0
 TellsIt (event.Ask a r own at) x = IsToldAs r x
 TellsIt _ x = ⊥
 
-module _ (objects : List Payload) where
-  -- the dict in which a name is looked up is no traceback
-  abbrev pub AsksBare : Request → Type 0
-  AsksBare (request.Global d x) = IsBare objects d
-  AsksBare _ = Unit {0}
+module _ (P : Obj → Type 0) where
+  -- the dict in which a name is looked up is one of which P holds
+  abbrev pub AsksIn : Request → Type 0
+  AsksIn (request.Global d x) = P d
+  AsksIn _ = Unit {0}
 
   -- so it is in each question that an activation asks
   abbrev pub EachAsks : List Own → Type 0
   EachAsks [] = Unit {0}
-  EachAsks (Asks at r h ∷ ts) = AsksBare r × EachAsks ts
+  EachAsks (Asks at r h ∷ ts) = AsksIn r × EachAsks ts
   EachAsks (_ ∷ ts) = EachAsks ts
 
   -- and in an event, where it is a question
-  abbrev pub NamesBare : Event → Type 0
-  NamesBare (event.Ask a r own at) = AsksBare r
-  NamesBare _ = Unit {0}
+  abbrev pub NamesIn : Event → Type 0
+  NamesIn (event.Ask a r own at) = AsksIn r
+  NamesIn _ = Unit {0}
 
   -- and in each of these
+  abbrev pub NameIn : List Event → Type 0
+  NameIn [] = Unit {0}
+  NameIn (e ∷ es) = NamesIn e × NameIn es
+
+module _ (objects : List Payload) where
+  -- the dict in which an event looks a name up is no traceback
+  abbrev pub NamesBare : Event → Type 0
+  NamesBare e = NamesIn (IsBare objects) e
+
+  -- so it is in each of these
   abbrev pub NameBare : List Event → Type 0
-  NameBare [] = Unit {0}
-  NameBare (e ∷ es) = NamesBare e × NameBare es
+  NameBare es = NameIn (IsBare objects) es
 
   -- where these events were before and that one comes, an object is known, or no traceback, or told as one
   abbrev pub IsKnown : List Event → Event → Obj → Type 0
@@ -131,7 +140,7 @@ module _ (objects : List Payload) where
   brings_known before _ v bare = inr (inl bare)
 
   -- the numbers of a question are those of its values, but for the dict
-  asked_known : (n : ℕ) (own : List ℕ) (r : Request) → AsksBare r → is_among n (own ++ request_numbers r) ≡ true → (is_among n (own ++ asked_numbers r) ≡ true) ⊎ IsBare objects (numbered n)
+  asked_known : (n : ℕ) (own : List ℕ) (r : Request) → AsksIn (IsBare objects) r → is_among n (own ++ request_numbers r) ≡ true → (is_among n (own ++ asked_numbers r) ≡ true) ⊎ IsBare objects (numbered n)
   asked_known n own (request.Global d x) bare among = elim (either (is_among n own) (is_among n (d.number ∷ [])) (sym (among_joined n own (d.number ∷ [])) ∙ among)) [
     | inl front ↦ inl (among_first n own [] front)
     | inr back ↦ inr (elim (either (eqb n d.number) false back) [ inl here ↦ subst (λ k. IsBare objects (numbered k)) (sym (eqb-true n d.number here)) bare | inr never ↦ absurd (cc never) ])

@@ -27,14 +27,14 @@ name_is x None e = absurd (cc e)
 name_is x (Some y) e = ap Some (sym ((bytes_eq-Decides x y).0 e))
 
 -- what is declared under a name has an entry of that name
-named_entry : (objects : List Payload) (x : Name) (v : Obj) → declared objects x ≡ Some v → (p : Payload) × HasPayload objects v p × (declares p ≡ Some x)
+pub named_entry : (objects : List Payload) (x : Name) (v : Obj) → declared objects x ≡ Some v → (p : Payload) × HasPayload objects v p × (declares p ≡ Some x)
 named_entry objects x v is =
     let (k, p, number, here, hit) = declares_it 0 objects x v is in
     let place : v.number ≡ k = omega (arith, number) in
     (p, ap (slice_get objects) place ∙ here, name_is x (declares p) hit)
 
 -- whatever its entry is
-entry_named : (objects : List Payload) (x : Name) (v : Obj) (p : Payload) → declared objects x ≡ Some v → HasPayload objects v p → declares p ≡ Some x
+pub entry_named : (objects : List Payload) (x : Name) (v : Obj) (p : Payload) → declared objects x ≡ Some v → HasPayload objects v p → declares p ≡ Some x
 entry_named objects x v p is has =
     let (q, has', says) = named_entry objects x v is in
     ap declares (one_payload objects v.number p q has has') ∙ says
@@ -47,7 +47,7 @@ one_name objects x y v is is' =
     cc both
 
 -- under one name one object
-one_object : (objects : List Payload) (x : Name) (v w : Obj) → declared objects x ≡ Some v → declared objects x ≡ Some w → v ≡ w
+pub one_object : (objects : List Payload) (x : Name) (v w : Obj) → declared objects x ≡ Some v → declared objects x ≡ Some w → v ≡ w
 one_object objects x v w is is' = let both : Some v ≡ Some w = sym is ∙ is' in cc both
 
 -- a declaration is no literal

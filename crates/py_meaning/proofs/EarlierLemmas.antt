@@ -9,7 +9,7 @@ use Rattle.py_lines.specs.declared.drive.DriveLine.TheVariants as drive
 use Rattle.py_grammar.specs.declared.script.Script.{Script}
 use Rattle.py_grammar.specs.Grammar.{Decl}
 use Rattle.py_grammar.specs.Script.{IsScript, decls_of}
-use Rattle.py_grammar.specs.WellFormed.{IsDrivable, IsThrowable, IsWellDriven}
+use Rattle.py_grammar.specs.WellFormed.{AreWellDriven, IsDrivable, IsThrowable, IsWellDriven}
 use Rattle.py_grammar.proofs.Keeps.{script_driven}
 use Rattle.py_meaning.specs.Earlier.{AtomIsEarlier, ValueIsEarlier, LineIsEarlier, NameEarlier}
 
@@ -39,5 +39,10 @@ module _ (decls : List Decl) (made : ℕ) where
   line_earlier (drive.Close n) may = may.1
   line_earlier (drive.Report n) may = may.1
 
+-- where these are well driven
+pub driven_earlier : (decls : List Decl) (drives : List DriveLine) → AreWellDriven decls drives → NameEarlier drives
+driven_earlier decls drives driven = λ i d at. line_earlier decls i d (driven i d at)
+
+-- so are those of a script
 pub script_earlier : (bytes : List ℕ) (s : Script) → IsScript bytes s → NameEarlier s.drives
-script_earlier bytes s is = λ i d at. line_earlier (decls_of s) i d (script_driven bytes s is i d at)
+script_earlier bytes s is = driven_earlier (decls_of s) s.drives (script_driven bytes s is)

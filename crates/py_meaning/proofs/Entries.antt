@@ -63,7 +63,7 @@ raw_place (FunctionDecl t ∷ ds) (suc k) b at = let (i, is) = raw_place ds k b 
 raw_place (RawDecl r ∷ ds) (suc k) b at = let (i, is) = raw_place ds k b at in (suc i, is)
 
 -- and what a code is of is declared under its name
-code_declared : (ds : List Decl) (i : ℕ) (c : Coded) → slice_get (codes_in ds) i ≡ Some c → (k : ℕ) × (d : Decl) × (slice_get ds k ≡ Some d) × (decl_name d ≡ coded_name c)
+pub code_declared : (ds : List Decl) (i : ℕ) (c : Coded) → slice_get (codes_in ds) i ≡ Some c → (k : ℕ) × (d : Decl) × (slice_get ds k ≡ Some d) × (decl_name d ≡ coded_name c)
 code_declared [] i c at = absurd (cc at)
 code_declared (ClassDecl n b ∷ ds) i c at = let (k, d, is, named) = code_declared ds i c at in (suc k, d, is, named)
 code_declared (ManagerDecl m e x ∷ ds) i c at = let (k, d, is, named) = code_declared ds i c at in (suc k, d, is, named)
@@ -85,7 +85,7 @@ named_class x (k ∷ kinds) h = go (bytes_eq x (name_of k)) refl h (named_class 
     go false other h later = later h
 
 -- each of them has such a name
-named_builtin : (kind : ErrorKind) → is_builtin_class (name_of kind) ≡ true
+pub named_builtin : (kind : ErrorKind) → is_builtin_class (name_of kind) ≡ true
 named_builtin kind = each_kind (λ k. is_builtin_class (name_of k)) refl kind
 
 -- the name of a function stands for something, and so does that of a class

@@ -10,9 +10,10 @@ use Rattle.py_run.specs.declared.journal.Journal.{Journal}
 use Rattle.py_reports.specs.Scenes.{SourceLines}
 use Rattle.py_run.specs.Links.{lines_in}
 use Rattle.py_determined.specs.Raises.{TellRaises}
-use Rattle.py_determined.proofs.AsksEach.{name_bare}
+use Rattle.py_determined.proofs.AsksEach.{name_in}
 use Rattle.py_determined.proofs.LinksTell.{links_tell}
 use Rattle.py_determined.proofs.NamedBefore.{EachAsks}
+use Rattle.py_determined.proofs.Pairing.{IsBare}
 use Rattle.py_determined.proofs.RunsAgree.{OfOneScript}
 use Rattle.py_meaning.specs.Core.{IsCore}
 use Rattle.py_meaning.specs.Earlier.{NameEarlier}
@@ -34,9 +35,9 @@ module _ (decls : List Decl) (drives : List DriveLine) (core : IsCore decls driv
   }
 
   -- each activation looks names up in the dict of the globals
-  each_asks : (f : Obj) (vs : List Obj) (ts : List Own) → Traces (codes_in decls) journal.run.globals j.objects f vs ts → EachAsks j.objects ts
+  each_asks : (f : Obj) (vs : List Obj) (ts : List Own) → Traces (codes_in decls) journal.run.globals j.objects f vs ts → EachAsks (IsBare j.objects) ts
   each_asks f vs ts (b, has, (OfBody t, here, told)) =
-      trace_good j.objects (thrown_in under_any j.objects journal.run.globals) (payload.Dict journal.run.are_globals.pairs, journal.run.are_globals.dict, refl) t vs ts told
+      trace_good (IsBare j.objects) (thrown_in under_any j.objects journal.run.globals) (payload.Dict journal.run.are_globals.pairs, journal.run.are_globals.dict, refl) t vs ts told
   each_asks f vs ts (b, has, (OfRaw r, here, told)) = absurd (core_codes decls core.declares b.code r here)
 
   -- so exits are told the tracebacks of raises
@@ -44,4 +45,4 @@ module _ (decls : List Decl) (drives : List DriveLine) (core : IsCore decls driv
   exits_told =
       links_tell (plan_of (codes_in decls) journal.run.asked) j.objects (Traces (codes_in decls) journal.run.globals j.objects) j.events with_itself journal.run.run.comes journal.run.run.tells
       (λ throws. TracesUnder throws (codes_in decls) journal.run.globals j.objects) (lines_in j.codes) j.changes (length j.events) journal.links.alone journal.links.come
-      (name_bare j.objects (plan_of (codes_in decls) journal.run.asked) (Traces (codes_in decls) journal.run.globals j.objects) j.events journal.run.run.comes journal.run.run.tells each_asks)
+      (name_in (IsBare j.objects) j.objects (plan_of (codes_in decls) journal.run.asked) (Traces (codes_in decls) journal.run.globals j.objects) j.events journal.run.run.comes journal.run.run.tells each_asks)

@@ -1,4 +1,4 @@
--- Bodies look names up in the dict of the globals alone, which is no traceback.
+-- Bodies look names up in the dict of the globals alone.
 use Rattle.std.proofs.Common.{◌≡◌, ◌⊎◌, ℕ, zero, suc, inl, inr, Bool, true, false, List, [], ◌∷◌, Some, None, sym, subst}
 use Rattle.std.specs.Prelude.{Option}
 use Rattle.py_code.specs.declared.literal.BuiltinFn.{BuiltinFn}
@@ -27,13 +27,13 @@ use Rattle.py_tree.specs.Binding.{Env, find_local, set_local, bind}
 use Rattle.py_tree.specs.Scene.{Scene}
 use Rattle.py_tree.specs.Outcome.{Outcome, Normal, Breaks, Continues, Returns, Raises, Cut, Handled, After, Runner, With, Use, By_truth, Requests, Named, Loads, Calls, Finishes, Evaluates, EvaluatesAll, Tests, Chooses, On_normal, On_turn, On_raise, behind, Behind_finally, On_finally, Finally, Forgets, Handles, Loops, Leaves, On_exit, Manages, Reraises, Runs, RunsSuite, Tries}
 use Rattle.py_tree.specs.Trace.{Ended, EndsBy, Entered, IsBegun, IsTrace}
-use Rattle.py_determined.proofs.NamedBefore.{AsksBare, EachAsks}
-use Rattle.py_determined.proofs.Pairing.{IsBare}
+use Rattle.py_determined.proofs.NamedBefore.{AsksIn, EachAsks}
 
-module _ (objects : List Payload) where
+-- D is what holds of that dict
+module _ (D : Obj → Type 0) where
   -- what is told so
   abbrev Good : (ℕ → List Own → Type 0) → Type 0
-  Good P = (i : ℕ) (ts : List Own) → P i ts → EachAsks objects ts
+  Good P = (i : ℕ) (ts : List Own) → P i ts → EachAsks D ts
 
   abbrev GoodValues : AfterValue → Type 0
   GoodValues K = (v : Value) → Good (K v)
@@ -44,8 +44,8 @@ module _ (objects : List Payload) where
   abbrev GoodRunner : Runner → Type 1
   GoodRunner body = (env : Env) (h : Handled) (K : After) → GoodAfter K → Good (λ i ts. body env h i ts K)
 
-  ends : (ts : List Own) → ts ≡ [] → EachAsks objects ts
-  ends ts is = subst (EachAsks objects) (sym is) tt
+  ends : (ts : List Own) → ts ≡ [] → EachAsks D ts
+  ends ts is = subst (EachAsks D) (sym is) tt
 
   -- ---- words of tellings
 
@@ -59,10 +59,10 @@ module _ (objects : List Payload) where
   answers_good (got.Stop v) K good = λ i ts never. absurd never
 
   answered_good : (K : AfterValue) → GoodValues K → Good (λ i ts. Answered i ts K)
-  answered_good K good = cut_good _ _ (λ i ts (k, w, mid, is, told). subst (EachAsks objects) (sym is) (answers_good w K good k mid told))
+  answered_good K good = cut_good _ _ (λ i ts (k, w, mid, is, told). subst (EachAsks D) (sym is) (answers_good w K good k mid told))
 
-  asked_good : (units : ℕ → Bool) (r : Request) (h : Handled) (K : AfterValue) → AsksBare objects r → GoodValues K → Good (λ i ts. Asked units r h i ts K)
-  asked_good units r h K bare good = cut_good _ _ (λ i ts (at, mid, of_line, is, told). subst (EachAsks objects) (sym is) (bare, answered_good K good i mid told))
+  asked_good : (units : ℕ → Bool) (r : Request) (h : Handled) (K : AfterValue) → AsksIn D r → GoodValues K → Good (λ i ts. Asked units r h i ts K)
+  asked_good units r h K bare good = cut_good _ _ (λ i ts (at, mid, of_line, is, told). subst (EachAsks D) (sym is) (bare, answered_good K good i mid told))
 
   goes_good : (throws : ℕ → Bool) (w : ResumeHow) (K : AfterValue) → GoodValues K → Good (λ i ts. GoesOn throws w i ts K)
   goes_good throws how.Start K good = λ i ts never. absurd never
@@ -70,13 +70,13 @@ module _ (objects : List Payload) where
   goes_good throws (how.Throw e) K good = λ i ts told. good (Failed e) i ts told.1
 
   resumed_good : (throws : ℕ → Bool) (K : AfterValue) → GoodValues K → Good (λ i ts. Resumed throws i ts K)
-  resumed_good throws K good = cut_good _ _ (λ i ts (k, w, mid, is, goes). subst (EachAsks objects) (sym is) (goes_good throws w K good k mid goes))
+  resumed_good throws K good = cut_good _ _ (λ i ts (k, w, mid, is, goes). subst (EachAsks D) (sym is) (goes_good throws w K good k mid goes))
 
   yielded_good : (units throws : ℕ → Bool) (v : Obj) (K : AfterValue) → GoodValues K → Good (λ i ts. Yielded units throws v i ts K)
-  yielded_good units throws v K good = cut_good _ _ (λ i ts (at, mid, of_line, is, told). subst (EachAsks objects) (sym is) (resumed_good throws K good i mid told))
+  yielded_good units throws v K good = cut_good _ _ (λ i ts (at, mid, of_line, is, told). subst (EachAsks D) (sym is) (resumed_good throws K good i mid told))
 
   rounded_good : (cut : ℕ → Type 0) (P : ℕ → List Own → Type 0) → Good P → Good (λ i ts. Rounded ts (cut i) (P i))
-  rounded_good cut P good = cut_good _ _ (λ i ts (at, mid, is, told). subst (EachAsks objects) (sym is) (good i mid told))
+  rounded_good cut P good = cut_good _ _ (λ i ts (at, mid, is, told). subst (EachAsks D) (sym is) (good i mid told))
 
   literal_good : (store : List Payload) (p : Payload) (K : AfterValue) → GoodValues K → Good (λ i ts. IsLiteral store p i ts K)
   literal_good store p K good = cut_good _ _ (λ i ts (v, has, told). good (Given v) i ts told)
@@ -141,25 +141,25 @@ module _ (objects : List Payload) where
 
   -- ---- what a call asks
 
-  send_bare : (f : Obj) (vs us : List Obj) → AsksBare objects (or_call f vs (send_request us))
+  send_bare : (f : Obj) (vs us : List Obj) → AsksIn D (or_call f vs (send_request us))
   send_bare f vs [] = tt
   send_bare f vs (g ∷ []) = tt
   send_bare f vs (g ∷ v ∷ []) = tt
   send_bare f vs (g ∷ v ∷ w ∷ us) = tt
 
-  throw_bare : (f : Obj) (vs us : List Obj) → AsksBare objects (or_call f vs (throw_request us))
+  throw_bare : (f : Obj) (vs us : List Obj) → AsksIn D (or_call f vs (throw_request us))
   throw_bare f vs [] = tt
   throw_bare f vs (g ∷ []) = tt
   throw_bare f vs (g ∷ c ∷ []) = tt
   throw_bare f vs (g ∷ c ∷ v ∷ []) = tt
   throw_bare f vs (g ∷ c ∷ v ∷ w ∷ us) = tt
 
-  close_bare : (f : Obj) (vs us : List Obj) → AsksBare objects (or_call f vs (close_request us))
+  close_bare : (f : Obj) (vs us : List Obj) → AsksIn D (or_call f vs (close_request us))
   close_bare f vs [] = tt
   close_bare f vs (g ∷ []) = tt
   close_bare f vs (g ∷ v ∷ us) = tt
 
-  own_bare : (b : Option BuiltinFn) (f : Obj) (vs : List Obj) → AsksBare objects (or_call f vs (own_request b vs))
+  own_bare : (b : Option BuiltinFn) (f : Obj) (vs : List Obj) → AsksIn D (or_call f vs (own_request b vs))
   own_bare None f vs = tt
   own_bare (Some builtin.Send) f vs = send_bare f vs vs
   own_bare (Some builtin.Throw) f vs = throw_bare f vs vs
@@ -169,8 +169,8 @@ module _ (objects : List Payload) where
   -- ---- operators
 
   abbrev AskBare : Way → Type 0
-  AskBare (Asks_one r) = (v : Obj) → AsksBare objects (r v)
-  AskBare (Asks_two r) = (v w : Obj) → AsksBare objects (r v w)
+  AskBare (Asks_one r) = (v : Obj) → AsksIn D (r v)
+  AskBare (Asks_two r) = (v w : Obj) → AsksIn D (r v w)
   AskBare way = Unit {0}
 
   ask_bare : (o : Operator) → AskBare (way_of o)
@@ -183,10 +183,10 @@ module _ (objects : List Payload) where
   ask_bare operator.Close = λ v. tt
   ask_bare o = tt
 
-  module _ (scene : Scene) (globals : IsBare objects scene.globals) where
+  module _ (scene : Scene) (globals : D scene.globals) where
     -- ---- loads and requests
 
-    requests_good : (line : ℕ) (r : Request) (h : Handled) (K : AfterValue) → AsksBare objects r → GoodValues K → Good (λ i ts. Requests scene line r h i ts K)
+    requests_good : (line : ℕ) (r : Request) (h : Handled) (K : AfterValue) → AsksIn D r → GoodValues K → Good (λ i ts. Requests scene line r h i ts K)
     requests_good line r h K bare good = asked_good (λ at. scene.is_of at line) r h K bare good
 
     named_good : (line : ℕ) (found : Option (Option Obj)) (x : Name) (h : Handled) (K : AfterValue) → GoodValues K → Good (λ i ts. Named scene line found x h i ts K)
@@ -227,7 +227,7 @@ module _ (objects : List Payload) where
         → Good (λ i ts. Evaluates scene line env h a i ts (Use env K next))
     taken_good line env h a K next good on = evaluates_good a line env h _ (use_good env K next good on)
 
-    answer_good : (line : ℕ) (env : Env) (h : Handled) (r : Request) (K : After) (next : Obj → ℕ → List Own → Type 0) → AsksBare objects r → GoodAfter K → ((v : Obj) → Good (next v))
+    answer_good : (line : ℕ) (env : Env) (h : Handled) (r : Request) (K : After) (next : Obj → ℕ → List Own → Type 0) → AsksIn D r → GoodAfter K → ((v : Obj) → Good (next v))
         → Good (λ i ts. Requests scene line r h i ts (Use env K next))
     answer_good line env h r K next bare good on = requests_good line r h _ bare (use_good env K next good on)
 
@@ -303,9 +303,9 @@ module _ (objects : List Payload) where
 
     -- ---- traces
 
-    ended_good : (e : Ending) (ts : List Own) → Ended e ts → EachAsks objects ts
+    ended_good : (e : Ending) (ts : List Own) → Ended e ts → EachAsks D ts
     ended_good e ts (inl is) = ends ts is
-    ended_good e ts (inr (at, is)) = subst (EachAsks objects) (sym is) tt
+    ended_good e ts (inr (at, is)) = subst (EachAsks D) (sym is) tt
 
     last_good : GoodAfter (EndsBy scene)
     last_good env Normal i ts (inl is) = ends ts is
@@ -316,15 +316,15 @@ module _ (objects : List Payload) where
     last_good env (Raises e) i ts ended = ended_good _ ts ended
     last_good env Cut i ts is = ends ts is
 
-    entered_good : (t : Tree) (vs : List Obj) (k : ℕ) (w : ResumeHow) (ts : List Own) → Entered scene t vs k w ts → EachAsks objects ts
+    entered_good : (t : Tree) (vs : List Obj) (k : ℕ) (w : ResumeHow) (ts : List Own) → Entered scene t vs k w ts → EachAsks D ts
     entered_good t vs k how.Start ts told = suites_good t.suite _ None _ last_good k ts told
     entered_good t vs k (how.Send v) ts never = absurd never
     entered_good t vs k (how.Throw e) ts told = ended_good _ ts told.2
 
-    begun_good : (t : Tree) (vs : List Obj) (ts : List Own) → IsBegun scene t vs ts → EachAsks objects ts
+    begun_good : (t : Tree) (vs : List Obj) (ts : List Own) → IsBegun scene t vs ts → EachAsks D ts
     begun_good t vs [] told = tt
     begun_good t vs (Resumes k w ∷ ts) told = entered_good t vs k w ts told
     begun_good t vs (_ ∷ ts) told = absurd told
 
-    pub trace_good : (t : Tree) (vs : List Obj) (ts : List Own) → IsTrace scene t vs ts → EachAsks objects ts
-    trace_good t vs ts (arity, (us, is, told)) = subst (EachAsks objects) (sym is) (begun_good t vs us told)
+    pub trace_good : (t : Tree) (vs : List Obj) (ts : List Own) → IsTrace scene t vs ts → EachAsks D ts
+    trace_good t vs ts (arity, (us, is, told)) = subst (EachAsks D) (sym is) (begun_good t vs us told)

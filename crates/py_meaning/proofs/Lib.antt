@@ -3,14 +3,14 @@ pub mod Behind
 pub mod Entries
 -- two runs of one script: what is alike before any event, what drives ask, what activations tell
 pub mod CoreLemmas
-mod EarlierLemmas
-mod AlikeObjects
+pub mod EarlierLemmas
+pub mod AlikeObjects
 mod AskedAgree
 mod TracesAgree
 mod OneScript
 -- where they look names up, and what exits are told
-mod GlobalsAsked
-mod ExitsTold
+pub mod GlobalsAsked
+pub mod ExitsTold
 -- how they end, and what is written of them
 mod Lengths
 mod TextsAgree
@@ -18,10 +18,10 @@ mod LinkedText
 pub mod ScriptsAgree
 -- what is written where no object changes, and journals worked by hand
 mod PlainText
-mod WorkedObjects
+pub mod WorkedObjects
 pub mod Journals
 mod WorkedLemmas
-mod WorkedShowLemmas
+pub mod WorkedShowLemmas
 mod WorkedLoopLemmas
 mod OneText
 mod WorkedCallLemmas

@@ -147,7 +147,7 @@ show_plain : (v : Obj) → IsPlain (request.Show v)
 show_plain v = record { no_call = λ f vs e. cc; not_handled = λ e. cc; no_send = λ g w e. cc; no_throw = λ g k w e. cc; no_close = λ g e. cc; no_enter = λ m e. cc; no_exit = λ x k w t e. cc }
 
 -- what is shown is answered by None
-gives_none : (plan : Plan) (store : List Payload) (p : Past) (v : Obj) (w : GotAnswer)
+pub gives_none : (plan : Plan) (store : List Payload) (p : Past) (v : Obj) (w : GotAnswer)
     → ((reply : Reply) × ((r : Request) × (Some (request.Show v) ≡ Some r) × IsReply plan store p Asking r reply) × GivesBody store p.events reply w) → GivesBody store p.events (Has payload.None) w
 gives_none plan store p v w (reply, (r, asks, replies), gives) =
     let says = subst (λ (x : Request). IsReply plan store p Asking x reply) (sym (some_is _ _ asks)) replies in

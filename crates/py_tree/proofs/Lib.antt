@@ -5,6 +5,6 @@ mod WorkedLemmas
 mod WorkedHandlerLemmas
 mod WorkedGeneratorLemmas
 mod WorkedManagerLemmas
-mod Reaching
+pub mod Reaching
 mod EndingLemmas
 mod ManagerLemmas

@@ -1,0 +1,2 @@
+-- what follows
+pub mod Laws
